@@ -1,0 +1,4 @@
+pub mod Ops
+pub mod Total
+pub mod Hardest
+pub mod TotalSteps
