@@ -1,0 +1,4 @@
+mod Counts
+mod Entered
+mod Edits
+mod Passing

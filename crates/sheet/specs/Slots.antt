@@ -1,0 +1,52 @@
+-- Sheets: the rules that are entered in a column of slots.
+use mathlib.Core.Bool.{Bool, true, false, _&&_}
+use mathlib.Core.List.{List, [], _∷_}
+use Prim.Native.Nat.{ℕ, suc, _+_, _-_}
+use lib.Dec.{ltb}
+use lib.ListN.{length, take}
+use Rattle.sheet.specs.declared.rule.Rule.{Rule}
+use Rattle.sheet.specs.declared.slot.Slot.{Slot}
+use Rattle.sheet.specs.declared.slot.Slot.the-variants.{Empty, Full}
+use Rattle.sheet.specs.Rules.{Inference, read, within}
+
+-- A call uses the first slot-limit slots at most.
+abbrev pub slot-limit : ℕ
+slot-limit = 16000
+
+abbrev pub used : List Slot → List Slot
+used xs = take slot-limit xs
+
+-- How many slots stand before the first empty one.
+abbrev pub fulls : List Slot → ℕ
+fulls [] = 0
+fulls (Empty ∷ xs) = 0
+fulls (Full r ∷ xs) = suc (fulls xs)
+
+-- How many slots are empty.
+abbrev pub empties : List Slot → ℕ
+empties [] = 0
+empties (Empty ∷ xs) = suc (empties xs)
+empties (Full r ∷ xs) = empties xs
+
+-- The number of rules entered, and of free slots.
+unfoldable pub count : List Slot → ℕ
+count xs = fulls (used xs)
+
+unfoldable pub free : List Slot → ℕ
+free xs = empties (used xs)
+
+-- The rules before the first empty slot, as they are read.
+abbrev pub front : List Slot → List Inference
+front [] = []
+front (Empty ∷ xs) = []
+front (Full r ∷ xs) = read r ∷ front xs
+
+-- The sheet: the rules entered; a rule's number is its index.
+unfoldable pub sheet : List Slot → List Inference
+sheet xs = front (used xs)
+
+-- Every slot holds a rule that keeps within n facts.
+abbrev pub passes : ℕ → List Slot → Bool
+passes n [] = true
+passes n (Empty ∷ xs) = false
+passes n (Full r ∷ xs) = within n r && passes n xs
