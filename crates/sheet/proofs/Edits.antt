@@ -10,8 +10,8 @@ use Rattle.std.proofs.shelf.Tests.{cond-true, cond-false, lt-ltb, le-ltb}
 use Rattle.std.proofs.shelf.Ways.{tells}
 use Rattle.sheet.specs.declared.slot.Slot.{Slot}
 use Rattle.sheet.specs.Refusals.{Answer, accepted, refused}
-use Rattle.sheet.specs.Slots.{count, free}
-use Rattle.sheet.specs.Edits.{body-answer, cost-answer, enter-answer, standing-answer, rule-at}
+use Rattle.sheet.specs.Slots.{count, free, rule-at}
+use Rattle.sheet.specs.Edits.{body-answer, cost-answer, enter-answer, standing-answer}
 
 pub body-fits : (n : ℕ) → accepted tt ≡ body-answer n → n ≤ 4
 body-fits n e = grind (arith, tells)

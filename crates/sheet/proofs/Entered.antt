@@ -8,8 +8,7 @@ use Rattle.std.proofs.shelf.Lists.{getD-take}
 use Rattle.sheet.specs.declared.rule.Rule.{Rule}
 use Rattle.sheet.specs.declared.slot.Slot.{Slot}
 use Rattle.sheet.specs.declared.slot.Slot.the-variants.{Empty, Full}
-use Rattle.sheet.specs.Slots.{used, fulls, empties, count, free}
-use Rattle.sheet.specs.Edits.{rule-in, rule-at}
+use Rattle.sheet.specs.Slots.{used, fulls, empties, count, free, rule-in, rule-at}
 
 pub fulls-bound : (xs : List Slot) → fulls xs ≤ length xs
 fulls-bound [] = omega arith

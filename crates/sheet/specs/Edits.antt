@@ -1,5 +1,5 @@
 -- Edits of a sheet: what each call answers, and what it leaves in the slots.
-use mathlib.Core.Bool.{Bool, true, false, cond}
+use mathlib.Core.Bool.{Bool, cond}
 use mathlib.Core.List.{List, []}
 use Prim.Native.Nat.{ℕ}
 use lib.Dec.{ltb, leb}
@@ -9,8 +9,8 @@ use Rattle.sheet.specs.declared.rule.Rule.{Rule}
 use Rattle.sheet.specs.declared.slot.Slot.{Slot}
 use Rattle.sheet.specs.declared.slot.Slot.the-variants.{Empty, Full}
 use Rattle.sheet.specs.Refusals.{Answer, accepted, refused, after}
-use Rattle.sheet.specs.Rules.{body-limit, made}
-use Rattle.sheet.specs.Slots.{slot-limit, count, free}
+use Rattle.sheet.specs.Rules.{body-limit, made, marked}
+use Rattle.sheet.specs.Slots.{slot-limit, count, free, rule-at}
 
 -- Opening.
 abbrev pub open-answer : List Slot → Answer (Unit {0})
@@ -39,19 +39,8 @@ enter-answer xs body cost =
 abbrev pub enter-slots : List Slot → ℕ → List ℕ → ℕ → List Slot
 enter-slots xs head body cost = after (enter-answer xs body cost) (λ n. set xs n (Full (made head body cost))) xs
 
--- The rule in a slot; what an empty slot would hold is never read.
-abbrev pub rule-in : Slot → Rule
-rule-in Empty = made 0 [] 0
-rule-in (Full r) = r
-
-abbrev pub rule-at : List Slot → ℕ → Rule
-rule-at xs n = rule-in (getD xs n Empty)
-
 abbrev pub repriced : Rule → ℕ → Rule
 repriced r c = record { head = r .head; body = r .body; arity = r .arity; cost = c; struck = r .struck }
-
-abbrev pub marked : Rule → Rule
-marked r = record { head = r .head; body = r .body; arity = r .arity; cost = r .cost; struck = true }
 
 -- Finding the rule that an edit names: it must be entered and not struck.
 abbrev pub standing-answer : {A : Type 0} → List Slot → ℕ → Answer A → Answer A

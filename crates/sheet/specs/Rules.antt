@@ -37,3 +37,7 @@ all-below n (x ∷ xs) = ltb x n && all-below n xs
 -- A rule keeps within n facts if it is struck, or its head and its body are below n.
 abbrev pub within : ℕ → Rule → Bool
 within n r = r .struck || (ltb (r .head) n && all-below n (body-of r))
+
+-- A rule with the mark of a struck one.
+abbrev pub marked : Rule → Rule
+marked r = record { head = r .head; body = r .body; arity = r .arity; cost = r .cost; struck = true }

@@ -1,13 +1,12 @@
 -- Sheets: the rules that are entered in a column of slots.
 use mathlib.Core.Bool.{Bool, true, false, _&&_}
 use mathlib.Core.List.{List, [], _∷_}
-use Prim.Native.Nat.{ℕ, suc, _+_, _-_}
-use lib.Dec.{ltb}
-use lib.ListN.{length, take}
+use Prim.Native.Nat.{ℕ, suc}
+use lib.ListN.{getD, take}
 use Rattle.sheet.specs.declared.rule.Rule.{Rule}
 use Rattle.sheet.specs.declared.slot.Slot.{Slot}
 use Rattle.sheet.specs.declared.slot.Slot.the-variants.{Empty, Full}
-use Rattle.sheet.specs.Rules.{Inference, read, within}
+use Rattle.sheet.specs.Rules.{Inference, read, within, made, marked}
 
 -- A call uses the first slot-limit slots at most.
 abbrev pub slot-limit : ℕ
@@ -50,3 +49,11 @@ abbrev pub passes : ℕ → List Slot → Bool
 passes n [] = true
 passes n (Empty ∷ xs) = false
 passes n (Full r ∷ xs) = within n r && passes n xs
+
+-- The rule in a slot; an empty slot reads as a struck rule.
+abbrev pub rule-in : Slot → Rule
+rule-in Empty = marked (made 0 [] 0)
+rule-in (Full r) = r
+
+abbrev pub rule-at : List Slot → ℕ → Rule
+rule-at xs n = rule-in (getD xs n Empty)

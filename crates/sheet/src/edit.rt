@@ -2,8 +2,8 @@
 ghost use mathlib.Core.Path.{_≡_};
 ghost use Prim.Native.Nat.{ℕ};
 ghost use Rattle.sheet.specs.Refusals.{answer, accepted};
-ghost use Rattle.sheet.specs.Edits.{open-answer, open-slots, body-answer, cost-answer, enter-answer, enter-slots, standing-answer, reprice-answer, reprice-slots, strike-answer, strike-slots, rule-at};
-ghost use Rattle.sheet.specs.Rules.{made};
+ghost use Rattle.sheet.specs.Edits.{open-answer, open-slots, body-answer, cost-answer, enter-answer, enter-slots, standing-answer, reprice-answer, reprice-slots, strike-answer, strike-slots};
+ghost use Rattle.sheet.specs.Slots.{rule-at};
 use crate::refusal::Refusal;
 use crate::rule::BODY_LIMIT;
 use crate::rule::Rule;

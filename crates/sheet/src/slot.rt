@@ -1,15 +1,36 @@
 // A slot of a sheet, and how many of a column are taken or free.
 ghost use mathlib.Core.Path.{_≡_};
-ghost use Rattle.sheet.specs.Slots.{used as first-slots, count, free};
+ghost use Rattle.sheet.specs.Slots.{used as first-slots, count, free, rule-in};
+use crate::rule::BODY_LIMIT;
 use crate::rule::Rule;
 
 // A call uses this many slots at most.
 pub const SLOT_LIMIT: usize = 16_000;
 
+const EMPTY: Rule = Rule {
+    head: 0,
+    body: [0; BODY_LIMIT],
+    arity: 0,
+    cost: 0,
+    struck: true,
+};
+
 #[derive(Clone, Copy)]
 pub enum Slot {
     Empty,
     Full(Rule),
+}
+
+impl Slot {
+    // The rule in the slot; an empty slot reads as a struck rule.
+    pub fn rule(&self) -> Rule
+        ensures { λ r. ⌜ r ≡ rule-in (now (self .entry)) ⌝ }
+    {
+        match self {
+            Slot::Empty => EMPTY,
+            Slot::Full(rule) => *rule,
+        }
+    }
 }
 
 // The slots that a call uses.

@@ -2,7 +2,6 @@ use mathlib.Core.Path.{_≡_, sym, ap, _∙_}
 use Prim.Native.Nat.{ℕ, _≤_, _<_}
 use native.Mathlib.Omega.{arith}
 use Rattle.sheet.specs.Slots.{count}
-use Rattle.sheet.specs.Edits.{rule-in}
 use Rattle.sheet.proofs.Edits.{standing-unknown, standing-struck, standing-here}
 use Rattle.sheet.proofs.Entered.{count-bound, entered-at}
 use Rattle.sheet.proofs.edit.standing.Needs as need
