@@ -1,0 +1,3 @@
+mod Sifting
+mod Entries
+mod Columns

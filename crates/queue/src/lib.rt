@@ -1,0 +1,5 @@
+// A priority queue over a lent column, for every element with an order.
+pub mod entry;
+pub mod heap;
+pub mod order;
+mod sift;
