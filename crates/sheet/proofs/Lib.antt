@@ -2,3 +2,4 @@ mod Counts
 mod Entered
 mod Edits
 mod Passing
+pub mod Within
