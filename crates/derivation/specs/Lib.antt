@@ -1,0 +1,6 @@
+pub mod Rules
+pub mod Joins
+pub mod Trees
+pub mod Fit
+pub mod Search
+pub mod Line
