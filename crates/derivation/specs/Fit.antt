@@ -13,7 +13,7 @@ abbrev pub all-below : ℕ → (ℕ → Bool) → Bool
 all-below zero p = true
 all-below (suc n) p = all-below n p && p n
 
-module _ {W : Type 0} (m : Ops W) (floor rest : ℕ → W) where
+module _ {W : Type 0} (m : Ops W) (floor : ℕ → W) where
   -- The floor of the head is no heavier than the effort joined with the floors of the whole body.
   abbrev pub floor-kept : Rule W → Bool
   floor-kept a = m .leb (floor (a .head)) (m .join (a .effort) (joined m (map floor (a .body))))
@@ -22,13 +22,14 @@ module _ {W : Type 0} (m : Ops W) (floor rest : ℕ → W) where
   abbrev pub beside : Rule W → ℕ → W
   beside a i = m .join (a .effort) (joined m (map floor (without (a .body) i)))
 
+module _ {W : Type 0} (m : Ops W) (floor rest : ℕ → W) where
   -- The rest of the fact at a place is no heavier than that joined with the rest of the head.
   abbrev pub rest-kept : Rule W → ℕ → Bool
-  rest-kept a i = m .leb (rest (getD (a .body) i 0)) (m .join (beside a i) (rest (a .head)))
+  rest-kept a i = m .leb (rest (getD (a .body) i 0)) (m .join (beside m floor a i) (rest (a .head)))
 
   -- The two conditions on the rules.
   pub record Consistent (rules : List (Rule W)) : Type 0 where
-    pub floors : (r : ℕ) → Standing m rules r → floor-kept (rule-at m rules r) ≡ true
+    pub floors : (r : ℕ) → Standing m rules r → floor-kept m floor (rule-at m rules r) ≡ true
     pub rests : (r i : ℕ) → Standing m rules r → i < length (rule-at m rules r .body) → rest-kept (rule-at m rules r) i ≡ true
 
   -- A guide fits where they hold and the rest of the target counts as nothing.
@@ -38,7 +39,7 @@ module _ {W : Type 0} (m : Ops W) (floor rest : ℕ → W) where
 
   -- Whether a rule keeps both conditions; a struck rule does.
   unfoldable pub rule-fits : Rule W → Bool
-  rule-fits a = a .struck || (floor-kept a && all-below (length (a .body)) (rest-kept a))
+  rule-fits a = a .struck || (floor-kept m floor a && all-below (length (a .body)) (rest-kept a))
 
 -- The verdict of a check of fit: it fits, the target fails, or this rule is the first that fails.
 pub data Verdict : Type 0 where

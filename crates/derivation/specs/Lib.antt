@@ -4,3 +4,5 @@ pub mod Trees
 pub mod Fit
 pub mod Search
 pub mod Line
+pub mod Contexts
+pub mod Examples

@@ -1,8 +1,10 @@
 // Derivations from weighted rules, and the search for a lightest one: definitions and theorems.
-ghost use mathlib.Core.Path.{_≡_};
+// Each function here does nothing; its contract is a theorem, and the crate is proved only with all of them.
+ghost use Rattle.derivation.specs.Examples.{Table};
 
-pub fn started() -> u8
-    ensures { λ r. ⌜ r ≡ 0 ⌝ }
+// What the definitions give on worked examples.
+pub fn worked_examples() -> u8
+    ensures { λ _. ⌜ Table ⌝ }
 {
     0
 }
