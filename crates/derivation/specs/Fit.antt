@@ -27,17 +27,20 @@ module _ {W : Type 0} (m : Ops W) (floor rest : ℕ → W) where
   abbrev pub rest-kept : Rule W → ℕ → Bool
   rest-kept a i = m .leb (rest (getD (a .body) i 0)) (m .join (beside m floor a i) (rest (a .head)))
 
-  -- The two conditions on the rules.
-  pub record Consistent (rules : List (Rule W)) : Type 0 where
-    pub floors : (r : ℕ) → Standing m rules r → floor-kept m floor (rule-at m rules r) ≡ true
-    pub rests : (r i : ℕ) → Standing m rules r → i < length (rule-at m rules r .body) → rest-kept (rule-at m rules r) i ≡ true
+  -- A rule keeps both conditions, the second at each place of its body.
+  pub record Keeps (a : Rule W) : Type 0 where
+    pub floors : floor-kept m floor a ≡ true
+    pub rests : (i : ℕ) → i < length (a .body) → rest-kept a i ≡ true
 
-  -- A guide fits where they hold and the rest of the target counts as nothing.
+  abbrev pub Consistent : List (Rule W) → Type 0
+  Consistent rules = (r : ℕ) → Standing m rules r → Keeps (rule-at m rules r)
+
+  -- A guide fits where each standing rule keeps both and the rest of the target counts as nothing.
   pub record Fit (rules : List (Rule W)) (target : ℕ) : Type 0 where
     pub target-rest : m .norm (rest target) ≡ m .nothing
     pub consistent : Consistent rules
 
-  -- Whether a rule keeps both conditions; a struck rule does.
+  -- Whether a rule is struck or keeps both.
   unfoldable pub rule-fits : Rule W → Bool
   rule-fits a = a .struck || (floor-kept m floor a && all-below (length (a .body)) (rest-kept a))
 

@@ -5,4 +5,5 @@ pub mod Fit
 pub mod Search
 pub mod Line
 pub mod Contexts
+pub mod Theorems
 pub mod Examples
