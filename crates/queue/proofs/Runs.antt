@@ -92,7 +92,7 @@ module _ {X : Type 0} (leb : X → X → Bool) (ops : List (Op X)) (xs : List X)
       let h : Right leb (length xs) (take n ys) o r = subst (λ m. Right leb m (take n ys) o r) wide fits in
       (take n ys, rw e holds, rw (f, g) h)
 
-  pub goes-on : (i : ℕ) (ys zs : List X) (replies : List (Reply X)) (n m : ℕ) (o : Op X) (r : Reply X) → i < length ops → length ops ≤ length before → o ≡ getD ops i o → Going leb ops xs before i ys replies n → Step leb o ys n zs r m → Going leb ops xs before (i + 1) zs (set replies i r) m
+  goes-on : (i : ℕ) (ys zs : List X) (replies : List (Reply X)) (n m : ℕ) (o : Op X) (r : Reply X) → i < length ops → length ops ≤ length before → o ≡ getD ops i o → Going leb ops xs before i ys replies n → Step leb o ys n zs r m → Going leb ops xs before (i + 1) zs (set replies i r) m
   goes-on i ys zs replies n m o r l enough read going step =
       let lr : i < length replies = omega (arith, going .long) in
       let e : take (i + 1) ops ≡ take i ops ++ o ∷ [] = take-more ops i o l ∙ ap (λ p. take i ops ++ p ∷ []) (sym read) in
@@ -110,6 +110,11 @@ module _ {X : Type 0} (leb : X → X → Bool) (ops : List (Op X)) (xs : List X)
         beyond =
             drop-set-lt (i + 1) replies i r (omega arith) ∙ sym (drop-drop 1 i replies) ∙ ap (drop 1) (going .beyond) ∙ drop-drop 1 i before;
       }
+
+  -- The same where the replies after the write are a column of their own.
+  pub goes-on-in : (i : ℕ) (ys zs : List X) (replies after : List (Reply X)) (n m : ℕ) (o : Op X) (r : Reply X) → i < length ops → length ops ≤ length before → o ≡ getD ops i o → after ≡ set replies i r → Going leb ops xs before i ys replies n → Step leb o ys n zs r m → Going leb ops xs before (i + 1) zs after m
+  goes-on-in i ys zs replies after n m o r l enough read wrote going step =
+      subst (λ rs. Going leb ops xs before (i + 1) zs rs m) (sym wrote) (goes-on i ys zs replies n m o r l enough read going step)
 
   pub ends : (i : ℕ) (ys : List X) (replies : List (Reply X)) (n : ℕ) → i ≤ length ops → length ops ≤ i → length ops ≤ length before → Going leb ops xs before i ys replies n → Made leb ops xs before ys replies n
   ends i ys replies n a b enough going =
