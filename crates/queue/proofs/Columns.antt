@@ -51,14 +51,12 @@ module _ {X : Type 0} (leb : X → X → Bool) (xs : List X) (count : ℕ) (x : 
             rw front (heap-from-edges leb ys (mends (rw pushed (above-push leb (take count xs) x heap))));
       }
 
-module _ {X : Type 0} (leb : X → X → Bool) (lin : Linear leb) (xs : List X) (count n : ℕ) (zs ys : List X) (r : X) (some : 0 < count) (within : count ≤ length xs) (is : n ≡ count - 1) (swapped : Places xs zs 0 n) (was : zs ≡ set (set xs 0 (getD xs n r)) n (getD xs 0 r)) (wide : length zs ≡ length xs) (long : length ys ≡ n) (read : r ≡ getD (ys ++ drop n zs) n r) where
+module _ {X : Type 0} (leb : X → X → Bool) (lin : Linear leb) (xs : List X) (count n : ℕ) (zs ys : List X) (r : X) (some : 0 < count) (within : count ≤ length xs) (is : n ≡ count - 1) (swapped : Places xs zs 0 n) (was : zs ≡ set (set xs 0 (getD xs n r)) n (getD xs 0 r)) (wide : length zs ≡ length xs) (long : length ys ≡ n) (read : r ≡ getD xs 0 r) where
   one-more : count ≡ n + 1
   one-more = omega arith
 
-  answered : r ≡ getD zs n r
-  answered =
-      read ∙ getD-append-right ys (drop n zs) n n r long (omega arith) ∙ getD-drop n zs (n - n) r
-      ∙ ap (λ k. getD zs k r) (omega arith)
+  answered : (d : X) → r ≡ getD zs n d
+  answered d = getD-read xs 0 r (omega arith) read d ∙ sym (swapped .1 d)
 
   front-swapped : Shuffled (take count xs) (take count zs)
   front-swapped =
@@ -76,7 +74,7 @@ module _ {X : Type 0} (leb : X → X → Bool) (lin : Linear leb) (xs : List X) 
   contents : Shuffled (take n zs) ys → Shuffled (take count xs) (r ∷ ys)
   contents same =
       let e : take count zs ≡ take n zs ++ r ∷ [] =
-      ap (λ k. take k zs) one-more ∙ take-more zs n r (omega arith) ∙ ap (λ y. take n zs ++ y ∷ []) (sym answered) in
+      ap (λ k. take k zs) one-more ∙ take-more zs n r (omega arith) ∙ ap (λ y. take n zs ++ y ∷ []) (sym (answered r)) in
       shuffled-trans (take count xs) (take n zs ++ r ∷ []) (r ∷ ys) (subst (Shuffled (take count xs)) e front-swapped)
       (shuffled-trans (take n zs ++ r ∷ []) (r ∷ take n zs) (r ∷ ys) (shuffled-to-front (take n zs) r) (shuffled-cons r (take n zs) ys same))
 
@@ -95,7 +93,7 @@ module _ {X : Type 0} (leb : X → X → Bool) (lin : Linear leb) (xs : List X) 
 
   least : Heap leb (take count xs) → All (λ y. leb r y ≡ true) (take count xs)
   least heap =
-      let first : getD (take count xs) 0 r ≡ r = getD-take count xs 0 r some ∙ sym (swapped .1 r) ∙ sym answered in
+      let first : getD (take count xs) 0 r ≡ r = getD-take count xs 0 r some ∙ sym read in
       all-from-getD (λ y. leb r y ≡ true) (take count xs) r
       (λ i s. let t = root-least lin (take count xs) (edges-from-heap leb (take count xs) heap) i i r (omega arith) s in rw first at t)
 
@@ -108,7 +106,10 @@ module _ {X : Type 0} (leb : X → X → Bool) (lin : Linear leb) (xs : List X) 
         within = within;
         long = size;
         contents = rw front (contents same);
-        freed = λ d. rw (← is) (sym (getD-read (ys ++ drop n zs) n r (omega arith) read d));
+        freed = λ d.
+            rw (← is)
+            (getD-append-right ys (drop n zs) n n d long (omega arith) ∙ getD-drop n zs (n - n) d
+            ∙ ap (λ k. getD zs k d) (omega arith) ∙ sym (answered d));
         beyond =
             drop-append-drop n zs ys count (omega arith) long
             ∙ ap (drop count) was ∙ drop-set-lt count (set xs 0 (getD xs n r)) n (getD xs 0 r) (omega arith)
@@ -128,8 +129,8 @@ added-part leb xs count x ys k is room =
     let wide = length-set xs count x in
     subst P (sym is) (λ same. added leb xs count x ys room (part-long (count + 1) zs ys (omega arith) same) same)
 
-pub removed-part : {X : Type 0} (leb : X → X → Bool) → Linear leb → (xs : List X) (count : ℕ) (zs ys : List X) (r : X) (k : ℕ) → k ≡ count - 1 → 0 < count → count ≤ length xs → Places xs zs 0 (count - 1) → zs ≡ set (set xs 0 (getD xs (count - 1) r)) (count - 1) (getD xs 0 r) → length zs ≡ length xs → r ≡ getD (ys ++ drop k zs) (count - 1) r → Shuffled (take k zs) ys → (Below leb (take k zs) → Edges leb ys) → Removed leb xs count (ys ++ drop k zs) r
-removed-part leb lin xs count zs ys r k is some within swapped was wide =
-    let P : ℕ → Type 0 = λ k. r ≡ getD (ys ++ drop k zs) (count - 1) r → Shuffled (take k zs) ys → (Below leb (take k zs) → Edges leb ys) → Removed leb xs count (ys ++ drop k zs) r in
+pub removed-part : {X : Type 0} (leb : X → X → Bool) → Linear leb → (xs : List X) (count : ℕ) (zs ys : List X) (r : X) (k : ℕ) → k ≡ count - 1 → 0 < count → count ≤ length xs → Places xs zs 0 (count - 1) → zs ≡ set (set xs 0 (getD xs (count - 1) r)) (count - 1) (getD xs 0 r) → length zs ≡ length xs → r ≡ getD xs 0 r → Shuffled (take k zs) ys → (Below leb (take k zs) → Edges leb ys) → Removed leb xs count (ys ++ drop k zs) r
+removed-part leb lin xs count zs ys r k is some within swapped was wide read =
+    let P : ℕ → Type 0 = λ k. Shuffled (take k zs) ys → (Below leb (take k zs) → Edges leb ys) → Removed leb xs count (ys ++ drop k zs) r in
     subst P (sym is)
-    (λ read same. removed leb lin xs count (count - 1) zs ys r some within refl swapped was wide (part-long (count - 1) zs ys (omega arith) same) read same)
+    (λ same. removed leb lin xs count (count - 1) zs ys r some within refl swapped was wide (part-long (count - 1) zs ys (omega arith) same) read same)

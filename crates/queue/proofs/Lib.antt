@@ -1,3 +1,4 @@
 mod Sifting
 mod Entries
 mod Columns
+mod Runs

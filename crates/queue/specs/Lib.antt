@@ -1,3 +1,4 @@
 pub mod Linear
 pub mod Heap
 pub mod Entry
+pub mod Run

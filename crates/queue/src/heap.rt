@@ -31,7 +31,8 @@ pub fn take<T: Order>(queue: &mut [T], count: usize) -> Option<T>
         return None;
     }
     let last = count - 1;
+    let least = queue[0];
     queue.swap(0, last);
     sift_down(&mut queue[0..last]);
-    Some(queue[last])
+    Some(least)
 }

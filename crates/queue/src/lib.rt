@@ -2,4 +2,5 @@
 pub mod entry;
 pub mod heap;
 pub mod order;
+pub mod run;
 mod sift;
