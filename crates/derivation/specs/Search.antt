@@ -7,6 +7,9 @@ use lib.ListN.{length}
 use Rattle.std.specs.declared.option.Option.{Option}
 use Rattle.std.specs.declared.option.Option.the-variants.{Some, None}
 use Rattle.measure.specs.Ops.{Ops}
+pub use Rattle.queue.specs.declared.entry.Entry.{Entry}
+pub use Rattle.queue.specs.Entry.{before as ahead}
+use Rattle.queue.specs.Entry.{entry-leb}
 use Rattle.derivation.specs.Rules.{Rule, rule-at, standing}
 use Rattle.derivation.specs.Joins.{joined}
 
@@ -45,23 +48,9 @@ abbrev pub among : List ℕ → ℕ → Bool
 among [] n = false
 among (x ∷ xs) n = eqb x n || among xs n
 
--- An entry of the queue: a rule, its weight, and the weight joined with the rest of its head.
-pub record Entry (W : Type 0) : Type 0 where
-  pub priority : W
-  pub weight : W
-  pub rule : ℕ
-
--- One key of an order: a before b where a is no greater and, if neither is greater, the next key says so.
-abbrev pub ahead : Bool → Bool → Bool → Bool
-ahead a≤b b≤a next = a≤b && (not b≤a || next)
-
 -- The order of entries: by priority, then by weight, then by rule number.
 abbrev pub before : {W : Type 0} → Ops W → Entry W → Entry W → Bool
-before m a b =
-    ahead
-    (m .leb (a .priority) (b .priority))
-    (m .leb (b .priority) (a .priority))
-    (ahead (m .leb (a .weight) (b .weight)) (m .leb (b .weight) (a .weight)) (leb (a .rule) (b .rule)))
+before m a b = entry-leb m a b
 
 -- The first of two entries, where there are any.
 abbrev pub first : {W : Type 0} → Ops W → Option (Entry W) → Option (Entry W) → Option (Entry W)
