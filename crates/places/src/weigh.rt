@@ -1,9 +1,9 @@
 // The entry of a rule whose body is closed throughout.
 ghost use mathlib.Core.Bool.{true};
 ghost use mathlib.Core.Path.{_≡_};
-ghost use lib.ListN.{length, getD};
+ghost use lib.ListN.{length};
+ghost use Rattle.places.specs.Entries.{rule-weight, rule-entry};
 ghost use Rattle.sheet.specs.Rules.{all-below, body-of};
-ghost use Rattle.search.specs.Entries.{rule-weight, rule-entry};
 use guide::Guide;
 use measure::Measure;
 use queue::entry::Entry;

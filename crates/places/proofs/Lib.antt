@@ -1,0 +1,5 @@
+pub mod Joining
+pub mod Chains
+pub mod Filling
+pub mod Waiting
+pub mod Walking

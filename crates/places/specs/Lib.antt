@@ -1,0 +1,4 @@
+pub mod Weighted
+pub mod Entries
+pub mod Chains
+pub mod Waiting

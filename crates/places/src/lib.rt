@@ -1,0 +1,3 @@
+// Places of rule bodies: which facts they name, how many are open, and the entries of rules with none open.
+pub mod setup;
+pub mod weigh;
