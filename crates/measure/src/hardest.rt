@@ -3,7 +3,7 @@ ghost use Rattle.measure.specs.Hardest.{hardest-ops};
 use crate::COST_LIMIT;
 use crate::Measure;
 
-#[derive(Clone, Copy, PartialEq, Eq)]
+#[derive(Clone, Copy)]
 pub struct Hardest {
     pub cost: u32,
 }

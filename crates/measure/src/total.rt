@@ -5,7 +5,7 @@ use crate::Measure;
 
 const TOTAL_LIMIT: u32 = 1_000_000_000;
 
-#[derive(Clone, Copy, PartialEq, Eq)]
+#[derive(Clone, Copy)]
 pub struct Total {
     pub total: u32,
 }

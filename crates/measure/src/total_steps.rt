@@ -9,7 +9,7 @@ const TOTAL_LIMIT: u32 = 1_000_000_000;
 
 const STEPS_LIMIT: u16 = 65_535;
 
-#[derive(Clone, Copy, PartialEq, Eq)]
+#[derive(Clone, Copy)]
 pub struct TotalSteps {
     pub total: u32,
     pub steps: u16,

@@ -1,0 +1,15 @@
+mod Examples
+mod Weights
+mod Floors
+mod Queue
+mod Log
+mod Frontier
+mod Invariant
+mod Untaken
+mod Run
+mod Answered
+mod Guides
+mod Surveys
+mod Counts
+mod Explored
+mod Checked

@@ -1,0 +1,5 @@
+mod Counts
+mod Entered
+mod Edits
+mod Passing
+pub mod Within

@@ -1,0 +1,5 @@
+pub mod Refusals
+pub mod Rules
+pub mod Slots
+pub mod Edits
+pub mod Passing
