@@ -17,7 +17,7 @@ use Rattle.queue.specs.Linear.{Linear}
 use Rattle.queue.specs.Heap.{Heap, Edges, Above, Below, Added, Removed}
 use Rattle.queue.proofs.Sifting.{Places, root-least, heap-from-edges, edges-from-heap}
 
-take-of-set : {X : Type 0} (n : ℕ) (xs : List X) (i : ℕ) (y : X) → take n (set xs i y) ≡ set (take n xs) i y
+pub take-of-set : {X : Type 0} (n : ℕ) (xs : List X) (i : ℕ) (y : X) → take n (set xs i y) ≡ set (take n xs) i y
 take-of-set zero xs i y = refl
 take-of-set (suc n) [] i y = refl
 take-of-set (suc n) (x ∷ xs) zero y = refl

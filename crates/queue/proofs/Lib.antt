@@ -1,4 +1,5 @@
 mod Sifting
-mod Entries
-mod Columns
+pub mod Entries
+pub mod Columns
+pub mod Shuffles
 mod Runs

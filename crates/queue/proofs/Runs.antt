@@ -10,12 +10,13 @@ use borrow.Author.Count.{below-more}
 use Rattle.std.specs.shelf.Lists.{All, Has}
 use Rattle.std.specs.shelf.Sorted.{Shuffled}
 use Rattle.std.proofs.shelf.Lists.{append-nil, append-assoc, length-set, length-take-le, take-more, take-more-set, take-all, take-set-le, take-set, drop-set-lt, drop-drop, getD-read, getD-set-same, getD-set-other}
-use Rattle.std.proofs.shelf.Sorted.{shuffled-refl, shuffled-sym, shuffled-trans, shuffled-cons, shuffled-to-front, shuffled-swap, has-shuffled}
+use Rattle.std.proofs.shelf.Sorted.{shuffled-sym, shuffled-trans, shuffled-to-front, has-shuffled}
 use Rattle.queue.specs.declared.run.Op.{Op}
 use Rattle.queue.specs.declared.run.Op.the-variants.{Put, Take}
 use Rattle.queue.specs.declared.run.Reply.{Reply}
 use Rattle.queue.specs.declared.run.Reply.the-variants.{Added, Refused, Taken, Empty}
 use Rattle.queue.specs.Heap as heap
+use Rattle.queue.proofs.Shuffles.{shuffled-front, shuffled-behind}
 use Rattle.queue.specs.Run.{entered, put-in, left, taken-out, Holds, Right, Right-until, Made, Ready, Step}
 
 -- The first i of a run are made.
@@ -26,33 +27,6 @@ pub record Going {X : Type 0} (leb : X → X → Bool) (ops : List (Op X)) (xs :
   pub wide : length ys ≡ length xs
   pub long : length replies ≡ length before
   pub beyond : drop i replies ≡ drop i before
-
--- Lists with the same elements, in front of another and behind it.
-module _ {X : Type 0} where
-  same : (xs ys : List X) → xs ≡ ys → Shuffled xs ys
-  same xs ys e = subst (Shuffled xs) e (shuffled-refl xs)
-
-  middle : (xs : List X) (y : X) (ys : List X) → Shuffled (xs ++ y ∷ ys) (y ∷ (xs ++ ys))
-  middle [] y ys = shuffled-refl (y ∷ ys)
-  middle (x ∷ xs) y ys =
-      shuffled-trans (x ∷ (xs ++ y ∷ ys)) (x ∷ y ∷ (xs ++ ys)) (y ∷ x ∷ (xs ++ ys))
-      (shuffled-cons x (xs ++ y ∷ ys) (y ∷ (xs ++ ys)) (middle xs y ys))
-      (shuffled-swap (x ∷ y ∷ (xs ++ ys)) (y ∷ x ∷ (xs ++ ys)) 0 1 (omega arith) (omega arith) refl)
-
-  turned : (xs ys : List X) → Shuffled (xs ++ ys) (ys ++ xs)
-  turned xs [] = same (xs ++ []) xs (append-nil xs)
-  turned xs (y ∷ ys) =
-      shuffled-trans (xs ++ y ∷ ys) (y ∷ (xs ++ ys)) (y ∷ (ys ++ xs)) (middle xs y ys)
-      (shuffled-cons y (xs ++ ys) (ys ++ xs) (turned xs ys))
-
-  behind : (zs xs ys : List X) → Shuffled xs ys → Shuffled (zs ++ xs) (zs ++ ys)
-  behind [] xs ys s = s
-  behind (z ∷ zs) xs ys s = shuffled-cons z (zs ++ xs) (zs ++ ys) (behind zs xs ys s)
-
-  front : (zs xs ys : List X) → Shuffled xs ys → Shuffled (xs ++ zs) (ys ++ zs)
-  front zs xs ys s =
-      shuffled-trans (xs ++ zs) (zs ++ xs) (ys ++ zs) (turned xs zs)
-      (shuffled-trans (zs ++ xs) (zs ++ ys) (ys ++ zs) (behind zs xs ys s) (turned zs ys))
 
 -- One more put or take and its reply.
 module _ {X : Type 0} where
@@ -72,8 +46,8 @@ module _ {X : Type 0} where
       let T = taken-out rs in
       rw (put-in-push os rs o r e, taken-out-push rs r, append-assoc T (left r) now)
       (shuffled-trans (put-in os rs ++ entered o r) ((T ++ held) ++ entered o r) (T ++ (left r ++ now))
-      (front (entered o r) (put-in os rs) (T ++ held) h)
-      (rw (append-assoc T held (entered o r)) (behind T (held ++ entered o r) (left r ++ now) s)))
+      (shuffled-behind (entered o r) (put-in os rs) (T ++ held) h)
+      (rw (append-assoc T held (entered o r)) (shuffled-front T (held ++ entered o r) (left r ++ now) s)))
 
 module _ {X : Type 0} (leb : X → X → Bool) (ops : List (Op X)) (xs : List X) (before : List (Reply X)) where
   -- The replies before i stay right when the one at i is written, and the one at i is right.

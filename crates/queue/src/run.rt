@@ -63,6 +63,7 @@ fn answer<T: Order>(op: Op<T>, queue: &mut [T], count: usize) -> (Reply<T>, usiz
     }
 }
 
+// Writes a into the column at i.
 fn write<A: Copy>(column: &mut [A], i: usize, a: A)
     requires { ⌜ i < length (now column) ⌝ }
     ensures { λ _. ⌜ now (column .exit) ≡ set (now (column .entry)) i a ⌝ }

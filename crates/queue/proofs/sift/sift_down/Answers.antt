@@ -10,7 +10,7 @@ pub returns-then-no-later : need.returns-then-no-later
 returns-then-no-later g c =
     let l = c .loop-place in
     let child = c .least-child-child .result in
-    let fits : g .T·Order .leb (c .index-heap-place .result) (c .index-heap-child .result) ≡ true = sym (c .if-no-later .ensures tt) in
+    let fits : g .T·Order .leb (c .index-heap-place .result) (c .index-heap-child .result) ≡ true = cc (c .if-no-later .ensures tt) in
     let fine =
     pair-read (l .heap) (λ x y. g .T·Order .leb x y ≡ true) (l .place) child
     (c .index-heap-place .result) (c .index-heap-child .result) (omega arith) (omega arith)
