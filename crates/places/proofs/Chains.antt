@@ -50,6 +50,7 @@ module _ {xs : List Slot} {heads next : List ℕ} (k : ℕ) (old : Chained xs he
         | inl e ↦ rw e (getD-set-same heads g (k + 1) 0 in-heads ∙ sym (last-more xs g k true (only g ∙ eq-eqb g g refl)))
         | inr e ↦ getD-set-other heads g f (k + 1) 0 e ∙ old .heads-at f (rw (length-set heads g (k + 1)) at h) ∙ sym (last-more xs f k false (only f ∙ ne-eqb g f (λ q. e (sym q))))
       ]
+
       at-next : (p f : ℕ) → p < k + 1 → holds xs f p ≡ true → getD (set next k (getD heads g 0)) p 0 ≡ last-below xs f p
       at-next p f h e = elim (cases-eq p k) [
         | inl q ↦ rw q (getD-set-same next k (getD heads g 0) 0 in-next ∙ old .heads-at g in-heads ∙ ap (λ z. last-below xs z k) (eqb-true g f (sym (only f) ∙ (rw q at e))))

@@ -28,9 +28,9 @@ has-rule P r (e ∷ es) all h =
     elim (cases-bool (eqb (e .rule) r)) [
       | inl y ↦ (e, all .0, eqb-true (e .rule) r y)
       | inr n ↦ has-rule P r es (all .1) (
-        let c = sumBy-cons (λ (e : Entry _). bit (eqb (e .rule) r)) e es in
-        let z : bit (eqb (e .rule) r) ≡ 0 = ap (λ b. bit b) n in
-        omega (arith, c, z))
+          let c = sumBy-cons (λ (e : Entry _). bit (eqb (e .rule) r)) e es in
+          let z : bit (eqb (e .rule) r) ≡ 0 = ap (λ b. bit b) n in
+          omega (arith, c, z))
     ]
 
 cond-flag : (b : Bool) → bit b ≡ 1 → b ≡ true
@@ -68,6 +68,7 @@ module _ {W : Type 0} (m : Ops W) (of : ℕ → Entry W) where
           sumBy-shuffled (λ (e : Entry W). bit (eqb (e .rule) r)) _ _ (a .contents)
           ∙ sumBy-cons (λ (e : Entry W). bit (eqb (e .rule) r)) x (take count queue)
           ∙ ap (λ k. bit (eqb (x .rule) r) + k) (f .members r)
+
       counted : (r : ℕ) (b : Bool) → eqb (x .rule) r ≡ b → countBy (λ e. eqb (e .rule) r) (take (count + 1) queue′) ≡ bit (flag′ r)
       counted r true e =
           let q : flag r ≡ false = ap flag (sym (eqb-true (x .rule) r e)) ∙ absent in
@@ -99,19 +100,23 @@ module _ {W : Type 0} (m : Ops W) (of : ℕ → Entry W) where
     where
       parts : All (λ e. e ≡ of (e .rule)) (x ∷ take (count - 1) queue′)
       parts = all-shuffled _ _ _ (a .contents) (f .entries)
+
       total : (r : ℕ) → bit (flag r) ≡ bit (eqb (x .rule) r) + countBy (λ e. eqb (e .rule) r) (take (count - 1) queue′)
       total r =
           sym (f .members r)
           ∙ sym (sumBy-shuffled (λ (e : Entry W). bit (eqb (e .rule) r)) _ _ (a .contents))
           ∙ sumBy-cons (λ (e : Entry W). bit (eqb (e .rule) r)) x (take (count - 1) queue′)
+
       at-most : (b : Bool) → bit b ≤ 1
       at-most true = omega arith
       at-most false = omega arith
+
       here : (k : ℕ) → k ≡ bit (flag (x .rule)) → k ≡ 1
       here k e =
           let t = total (x .rule) in
           let y : bit (eqb (x .rule) (x .rule)) ≡ 1 = ap (λ b. bit b) (eq-eqb (x .rule) (x .rule) refl) in
           omega (arith, t, y, e, at-most (flag (x .rule)))
+
       smallest : (r : ℕ) → flag r ≡ true → entry-leb m x (of r) ≡ true
       smallest r h =
           let both = all-both _ _ (take count queue) (a .least (f .ordered)) (f .entries) in
@@ -122,6 +127,7 @@ module _ {W : Type 0} (m : Ops W) (of : ℕ → Entry W) where
           all-both : (P Q : Entry W → Type 0) (es : List (Entry W)) → All P es → All Q es → All (λ e. P e × Q e) es
           all-both P Q [] p q = tt
           all-both P Q (e ∷ es) p q = ((p .0, q .0), all-both P Q es (p .1) (q .1))
+
       counted : (r : ℕ) (b : Bool) → eqb (x .rule) r ≡ b → countBy (λ e. eqb (e .rule) r) (take (count - 1) queue′) ≡ bit (flag′ r)
       counted r true e =
           let t = total r in

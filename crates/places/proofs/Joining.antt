@@ -24,7 +24,7 @@ module _ {W : Type 0} {m : Ops W} (laws : Laws m) where
       → m .join (m .join a (joined m (map g (take i body)))) (g (getD body i 0)) ≡ m .join a (joined m (map g (take (i + 1) body)))
   joined-more a g body i h =
       let pushed : map g (take (i + 1) body) ≡ map g (take i body) ++ (g (getD body i 0) ∷ []) =
-          ap (map g) (take-more body i 0 h) ∙ map-append g (take i body) (getD body i 0 ∷ []) in
+      ap (map g) (take-more body i 0 h) ∙ map-append g (take i body) (getD body i 0 ∷ []) in
       laws .assoc a _ _ ∙ ap (m .join a) (sym (joined-push (map g (take i body)) (g (getD body i 0)))) ∙ ap (λ l. m .join a (joined m l)) (sym pushed)
 
   pub whole-body : (r : Rule) (ws : List W) → m .join (m .effort (r .cost)) (joined m (map (held m ws) (body-of r))) ≡ rule-weight m r ws

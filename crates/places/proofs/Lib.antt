@@ -3,3 +3,4 @@ pub mod Chains
 pub mod Filling
 pub mod Waiting
 pub mod Walking
+pub mod Seeding

@@ -99,11 +99,11 @@ module _ (xs : List Slot) (f link : ℕ) (some : 0 < link) (fixed : last-below x
       let end : uses xs f r link′ ≡ uses xs f r (link - 1) = ap (uses xs f r) next ∙ uses-last xs f r (link - 1) in
       elim (cases-eq r q) [
         | inl e ↦ (
-          let now : getD ms′ r 0 ≡ getD ms q 0 - 1 = ap (λ (l : List ℕ). getD l r 0) changed ∙ ap (λ (k : ℕ). getD (set ms q (getD ms q 0 - 1)) k 0) e ∙ getD-set-same ms q (getD ms q 0 - 1) 0 u in
-          let was : getD ms q 0 + whole r ≡ start r + uses xs f r link = ap (λ (k : ℕ). getD ms k 0 + whole r) (sym e) ∙ left r in
-          let one : uses xs f r link ≡ uses xs f r (link - 1) + 1 = rw e link-uses in
-          omega (arith, now, was, one, end, p))
+            let now : getD ms′ r 0 ≡ getD ms q 0 - 1 = ap (λ (l : List ℕ). getD l r 0) changed ∙ ap (λ (k : ℕ). getD (set ms q (getD ms q 0 - 1)) k 0) e ∙ getD-set-same ms q (getD ms q 0 - 1) 0 u in
+            let was : getD ms q 0 + whole r ≡ start r + uses xs f r link = ap (λ (k : ℕ). getD ms k 0 + whole r) (sym e) ∙ left r in
+            let one : uses xs f r link ≡ uses xs f r (link - 1) + 1 = rw e link-uses in
+            omega (arith, now, was, one, end, p))
         | inr e ↦ (
-          let now : getD ms′ r 0 ≡ getD ms r 0 = ap (λ (l : List ℕ). getD l r 0) changed ∙ getD-set-other ms q r (getD ms q 0 - 1) 0 e in
-          omega (arith, now, left r, link-others r (λ z. e (sym z)), end))
+            let now : getD ms′ r 0 ≡ getD ms r 0 = ap (λ (l : List ℕ). getD l r 0) changed ∙ getD-set-other ms q r (getD ms q 0 - 1) 0 e in
+            omega (arith, now, left r, link-others r (λ z. e (sym z)), end))
       ]

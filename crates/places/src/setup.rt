@@ -1,4 +1,4 @@
-// Before a search: the open places of each rule, the chains, and the first entries.
+// Before a search: the open places of each rule, and the chains.
 // A place is 4 × the rule's number + its index in the body. A link is 0 at the end of a chain, or a place + 1.
 ghost use mathlib.Core.Bool.{true};
 ghost use mathlib.Core.Path.{_≡_};

@@ -74,7 +74,15 @@ pub fn walk<W: Measure, G: Guide<W>>(
     let mut count = count;
     while link > 0 {
         let place = link as usize - 1;
-        count = visit(slots, place / BODY_LIMIT, weights, guide, missing, queue, count);
+        count = visit(
+            slots,
+            place / BODY_LIMIT,
+            weights,
+            guide,
+            missing,
+            queue,
+            count,
+        );
         link = next[place];
     }
     count

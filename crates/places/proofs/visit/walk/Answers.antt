@@ -11,12 +11,13 @@ pub loop-link-holds : need.loop-link-holds
 loop-link-holds g c =
     let xs = c .args .slots .now in
     let f = c .args .fact in
-    let e : getD (c .args .heads .now) f 0 ≡ last-below xs f (4 * length xs) = c .pre .chained .heads-at f (c .pre .known .0) in
-    (ap (last-below xs f) e ∙ last-fixed xs f (4 * length xs) ∙ sym e,
-     omega (arith, e, last-bound xs f (4 * length xs)),
-     (λ r. ap (λ (k : ℕ). getD (c .args .missing .now) r 0 + k) (sym (uses-last xs f r (4 * length xs)) ∙ ap (uses xs f r) (sym e))),
-     refl,
-     (λ taken r. r))
+    let e : getD (c .args .heads .now) f 0 ≡ last-below xs f (4 * length xs) = c .pre .chained .heads-at f (c .pre .known .0) in (
+      ap (last-below xs f) e ∙ last-fixed xs f (4 * length xs) ∙ sym e,
+      omega (arith, e, last-bound xs f (4 * length xs)),
+      (λ r. ap (λ (k : ℕ). getD (c .args .missing .now) r 0 + k) (sym (uses-last xs f r (4 * length xs)) ∙ ap (uses xs f r) (sym e))),
+      refl,
+      (λ taken r. r),
+    )
 
 pub visit-count-requires : need.visit-count-requires
 visit-count-requires g c κs =
@@ -55,13 +56,14 @@ loop-link-again g c =
     let e = c .pre .chained .next-at (link - 1) f (omega (arith, inv .1, some)) h in
     let q = (link - 1) / 4 in
     let p : 0 < getD (c .loop-link .missing) q 0 = omega (arith, inv .2 q, c .pre .some q, link-uses xs f link some (inv .0)) in
-    let v = c .visit-count .ensures in
-    (ap (last-below xs f) e ∙ last-fixed xs f (link - 1) ∙ sym e,
-     omega (arith, e, last-bound xs f (link - 1), inv .1),
-     left-next xs f link some (inv .0) (λ r. getD (c .args .missing .now) r 0) (λ r. uses xs f r (4 * length xs)) (c .loop-link .missing) (c .visit-count .last .missing) _
-       (omega (arith, inv .1, some, c .loop-link .kept .missing, c .pre .known .1)) (inv .2) p (v .left) e,
-     v .total ∙ inv .3,
-     (λ taken r. v .ready taken (inv .4 taken r)))
+    let v = c .visit-count .ensures in (
+      ap (last-below xs f) e ∙ last-fixed xs f (link - 1) ∙ sym e,
+      omega (arith, e, last-bound xs f (link - 1), inv .1),
+      left-next xs f link some (inv .0) (λ r. getD (c .args .missing .now) r 0) (λ r. uses xs f r (4 * length xs)) (c .loop-link .missing) (c .visit-count .last .missing) _
+          (omega (arith, inv .1, some, c .loop-link .kept .missing, c .pre .known .1)) (inv .2) p (v .left) e,
+      v .total ∙ inv .3,
+      (λ taken r. v .ready taken (inv .4 taken r)),
+    )
 
 pub returns : need.returns
 returns g c =
