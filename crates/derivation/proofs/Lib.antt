@@ -13,3 +13,6 @@ mod Surveys
 mod Counts
 mod Explored
 mod Checked
+mod Moves
+mod Chains
+mod MapGuide

@@ -18,7 +18,8 @@ use Rattle.derivation.specs.Fit.{Verdict, fits, target-fails, rule-fails, chec
 use Rattle.derivation.specs.Trees.{weight}
 use Rattle.derivation.specs.Search.{State, final, answer, closed-count, taken-count, weight-of, reason-of}
 use Rattle.derivation.specs.Line.{line, line-tree}
-use Rattle.derivation.specs.Contexts.{surveyed, context, fold-rules}
+use Rattle.derivation.specs.Contexts.{surveyed, context}
+use Rattle.derivation.specs.Maps.{fold-rules}
 
 -- A rule with a cost, read under a measure.
 abbrev pub rule : {W : Type 0} → Ops W → ℕ → List ℕ → ℕ → Rule W
