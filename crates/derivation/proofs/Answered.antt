@@ -18,6 +18,7 @@ use Rattle.derivation.specs.Theorems.{Floors-below, Optimal-at, Optimal, Agree
 use Rattle.derivation.proofs.Floors.{floor-below}
 use Rattle.derivation.proofs.Frontier.{Front, frontier}
 use Rattle.derivation.proofs.Log.{Recorded, line-recorded}
+use Rattle.derivation.proofs.Distinct.{distinct-line}
 use Rattle.derivation.proofs.Invariant.{Sound}
 use Rattle.derivation.proofs.Run.{Ended, final-ended}
 
@@ -78,6 +79,7 @@ module _ {W : Type 0} {m : Ops W} (laws : Laws m) (rules : List (Rule W)) (floor
         lightest = λ w e d derives.
             let c = some-closed m t s w e in
             subst (λ x. m .leb x (weight m rules d) ≡ true) (c .1) (end .sound .lightest t (c .0) d derives);
+        distinct = distinct-line m rules (s .closed) (end .sound .log) t;
       }
 
 module _ {W : Type 0} {m : Ops W} (laws : Laws m) where

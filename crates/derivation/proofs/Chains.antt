@@ -5,12 +5,13 @@ use mathlib.Core.Logic.{_⊎_, inl, inr}
 use mathlib.Core.Path.{_≡_, refl, sym, _∙_, ap, subst}
 use Prim.Native.Nat.{ℕ, zero, suc, _<_}
 use lib.ListN.{length, getD}
-use Rattle.std.proofs.shelf.Tests.{cases-bool}
+use Rattle.std.proofs.shelf.Tests.{both-ways, cases-bool}
 use Rattle.measure.specs.Ops.{Ops, Laws}
 use Rattle.derivation.specs.Rules.{Rule, rule-at, Standing}
 use Rattle.derivation.specs.Joins.{joined}
 use Rattle.derivation.specs.Trees.{Tree, node, Trees, leaf, branch, Derives, DeriveAll, weight, weights, Derivable, Lightest}
 use Rattle.derivation.specs.Fit.{beside}
+use Rattle.derivation.specs.Search.{survey, is-closed}
 use Rattle.derivation.specs.Contexts.{Move, Chain, chain-weight, move-rule, move-rules, context-rules, surveyed, context}
 use Rattle.derivation.specs.Maps.{Least-chain, Contexts-least}
 use Rattle.derivation.proofs.Answered.{weight-norm, lightest-unique}
@@ -109,6 +110,31 @@ module _ {W : Type 0} {m : Ops W} (laws : Laws m) (floor : ℕ → W) (rules : L
             (best .0, best .1, best .2 ∙ l .2);
         absent = λ never. q .absent (λ d. let c = tree-chain (d .0) f (d .1) in never (c .0) (c .1));
       }
+
+  -- the least weight of a chain is unique, so that whatever gives it gives the context
+  pub least-chain-is : (f : ℕ) (w : W) → Least-chain m floor rules target f w → w ≡ context m floor rules target f
+  unfolding context surveyed context-rules
+  least-chain-is f w q =
+      let p = surveyed-at laws moved f in
+      elim (cases-bool (is-closed (survey m moved .closed) f)) [
+        | inl h ↦
+            let l = p .lightest (p .derivable h) in
+            let c = tree-chain (l .0) f (l .1) in
+            let best = q .attained (c .0) (c .1) in
+            let t = chain-tree (best .0) f (best .1) in
+            lightest-unique laws moved f w _ (
+              t .0,
+              t .1,
+              t .2 ∙ best .2,
+              λ d k.
+                  let e = tree-chain d f k in
+                  subst (λ x. m .leb w x ≡ true) (e .2) (q .least (e .0) (e .1)),
+            ) l
+        | inr h ↦
+            let never : (moves : List Move) → Chain m rules moves f target → ⊥ =
+            λ moves c. let t = chain-tree moves f c in both-ways _ h (p .closed (t .0, t .1)) in
+            q .absent never ∙ sym (p .absent (λ d. let c = tree-chain (d .0) f (d .1) in never (c .0) (c .1)))
+      ]
 
   pub context-target : context m floor rules target target ≡ m .nothing
   unfolding context surveyed context-rules

@@ -3,12 +3,14 @@ mod Weights
 mod Floors
 mod Queue
 mod Log
+mod Distinct
 mod Frontier
 mod Invariant
 mod Untaken
 mod Run
 mod Answered
 mod Guides
+mod Named
 mod Surveys
 mod Counts
 mod Explored

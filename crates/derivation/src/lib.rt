@@ -1,6 +1,6 @@
 // Derivations from weighted rules, and the search for a lightest one: definitions and theorems.
 // A function here does nothing: its contract is a theorem, for every measure W.
-ghost use Rattle.derivation.specs.Theorems.{Floors-below, Optimal, Exact, Agree, Surveyed, Blank-fits, Heavier-fits, Decided};
+ghost use Rattle.derivation.specs.Theorems.{Floors-below, Optimal, Exact, Agree, Surveyed, Blank-fits, Heavier-fits, Fit-below, Decided};
 ghost use Rattle.derivation.specs.Maps.{Contexts-least, Map-fits};
 ghost use Rattle.derivation.specs.Examples.{Table};
 use measure::Measure;
@@ -50,6 +50,13 @@ pub fn blank_fits<W: Measure>() -> u8
 // The heavier of two guides that fit fits.
 pub fn heavier_fits<W: Measure>() -> u8
     ensures { λ _. ⌜ Heavier-fits (W·Measure .ops) ⌝ }
+{
+    0
+}
+
+// Fit depends only on the facts that standing rules name, and on the target.
+pub fn fit_below<W: Measure>() -> u8
+    ensures { λ _. ⌜ Fit-below (W·Measure .ops) ⌝ }
 {
     0
 }
