@@ -1,22 +1,21 @@
 -- Chains are the derivations of the rules of contexts.
-use mathlib.Core.Bool.{Bool, true, false, not}
+use mathlib.Core.Bool.{true, false, not}
 use mathlib.Core.List.{List, [], _∷_}
-use mathlib.Core.Logic.{_⊎_, inl, inr}
+use mathlib.Core.Logic.{inl, inr}
 use mathlib.Core.Path.{_≡_, refl, sym, _∙_, ap, subst}
-use Prim.Native.Nat.{ℕ, zero, suc, _<_}
-use lib.ListN.{length, getD}
+use Prim.Native.Nat.{ℕ, zero, suc}
 use Rattle.std.proofs.shelf.Tests.{both-ways, cases-bool}
 use Rattle.measure.specs.Ops.{Ops, Laws}
-use Rattle.derivation.specs.Rules.{Rule, rule-at, Standing}
+use Rattle.derivation.specs.Rules.{Rule, rule-at}
 use Rattle.derivation.specs.Joins.{joined}
-use Rattle.derivation.specs.Trees.{Tree, node, Trees, leaf, branch, Derives, DeriveAll, weight, weights, Derivable, Lightest}
+use Rattle.derivation.specs.Trees.{Tree, node, Trees, leaf, branch, Derives, DeriveAll, weight, weights}
 use Rattle.derivation.specs.Fit.{beside}
 use Rattle.derivation.specs.Search.{survey, is-closed}
 use Rattle.derivation.specs.Contexts.{Move, Chain, chain-weight, move-rule, move-rules, context-rules, surveyed, context}
 use Rattle.derivation.specs.Maps.{Least-chain, Contexts-least}
 use Rattle.derivation.proofs.Answered.{weight-norm, lightest-unique}
 use Rattle.derivation.proofs.Surveys.{surveyed-at}
-use Rattle.derivation.proofs.Moves.{move-number, Made, move-made}
+use Rattle.derivation.proofs.Moves.{move-number, move-made}
 
 -- the shape of a root over a rule that is known
 root-derives : {W : Type 0} (m : Ops W) (rules : List (Rule W)) (r : ℕ) (a : Rule W) (ts : Trees) (f : ℕ)

@@ -1,7 +1,7 @@
 -- A guide made from a map fits.
-use mathlib.Core.Bool.{Bool, true, false, cond, not, _&&_}
+use mathlib.Core.Bool.{true, false, not}
 use mathlib.Core.List.{List, [], _∷_, map}
-use mathlib.Core.Logic.{_⊎_, inl, inr}
+use mathlib.Core.Logic.{inl, inr}
 use mathlib.Core.Path.{_≡_, refl, sym, _∙_, ap, ap₂, subst}
 use Prim.Native.Nat.{ℕ, zero, suc, _<_}
 use native.Mathlib.Omega.{arith}
@@ -11,12 +11,12 @@ use Rattle.std.proofs.shelf.Tests.{both-ways, cases-bool, and-parts, and-cases,
 use Rattle.measure.specs.Ops.{Ops, Laws}
 use Rattle.derivation.specs.Rules.{Rule, rule-at, Standing}
 use Rattle.derivation.specs.Joins.{joined, without}
-use Rattle.derivation.specs.Trees.{Tree, node, Trees, leaf, branch, Derives, DeriveAll, weight, weights, Derivable, Lightest}
-use Rattle.derivation.specs.Fit.{Fit, Keeps, floor-kept, beside, rest-kept}
-use Rattle.derivation.specs.Search.{survey, is-closed, all-closed, weight-in}
+use Rattle.derivation.specs.Trees.{node, Trees, leaf, branch, Derives, DeriveAll, weights}
+use Rattle.derivation.specs.Fit.{floor-kept, beside, rest-kept}
+use Rattle.derivation.specs.Search.{survey, is-closed, all-closed}
 use Rattle.derivation.specs.Contexts.{move-rule, move-rules, context-rules, surveyed, context}
-use Rattle.derivation.specs.Maps.{fold-rule, fold-rules, group-floor, group-rest, Map-fits}
-use Rattle.derivation.proofs.Weights.{part-left, part-right, join-right, map-without}
+use Rattle.derivation.specs.Maps.{fold-rule, fold-rules, Map-fits}
+use Rattle.derivation.proofs.Weights.{part-left, part-right, map-without}
 use Rattle.derivation.proofs.Surveys.{surveyed-at, weight-absent}
 use Rattle.derivation.proofs.Moves.{move-number}
 use Rattle.derivation.proofs.Chains.{context-target, join-nothing}

@@ -1,15 +1,12 @@
 -- Fit depends only on what a guide answers for the facts that are named.
-use mathlib.Core.Bool.{true}
 use mathlib.Core.List.{List, [], _∷_, map}
-use mathlib.Core.Path.{_≡_, refl, sym, _∙_, ap, ap₂, subst}
+use mathlib.Core.Path.{_≡_, refl, sym, _∙_, ap, ap₂}
 use Prim.Native.Nat.{ℕ, zero, suc, _<_}
-use lib.ListN.{length, getD}
 use Rattle.std.specs.shelf.Lists.{All}
-use Rattle.std.proofs.shelf.Elements.{all-from-getD, all-getD}
+use Rattle.std.proofs.shelf.Elements.{all-from-getD}
 use Rattle.measure.specs.Ops.{Ops}
-use Rattle.derivation.specs.Rules.{Rule, rule-at, Standing}
+use Rattle.derivation.specs.Rules.{rule-at}
 use Rattle.derivation.specs.Joins.{joined, without}
-use Rattle.derivation.specs.Fit.{Fit, Keeps, beside}
 use Rattle.derivation.specs.Theorems.{Fit-below}
 
 all-without : (P : ℕ → Type 0) (xs : List ℕ) (i : ℕ) → All P xs → All P (without xs i)

@@ -1,5 +1,5 @@
 -- The line of a search, and the derivation that it stands for.
-use mathlib.Core.Bool.{Bool, cond}
+use mathlib.Core.Bool.{cond}
 use mathlib.Core.List.{List, [], _∷_, _++_, reverse}
 use Prim.Native.Nat.{ℕ}
 use lib.Dec.{eqb}
