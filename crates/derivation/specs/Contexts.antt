@@ -14,7 +14,7 @@ pub record Move : Type 0 where
   pub rule : ℕ
   pub place : ℕ
 
--- A chain of moves from a fact to the target. A move goes from a place of a standing rule's body to its head.
+-- A chain of moves from a fact to the target: each move enters a standing rule at one place of its body and leaves it at its head.
 abbrev pub Chain : {W : Type 0} → Ops W → List (Rule W) → List Move → ℕ → ℕ → Type 0
 Chain m rules [] f target = f ≡ target
 Chain m rules (a ∷ moves) f target =
@@ -23,7 +23,7 @@ Chain m rules (a ∷ moves) f target =
     × (getD (rule-at m rules (a .rule) .body) (a .place) 0 ≡ f)
     × Chain m rules moves (rule-at m rules (a .rule) .head) target
 
--- A chain weighs the join of its moves, each of which weighs the effort joined with the floors at the other places.
+-- The weight of a chain. A move costs what its rule costs beside the place where it enters.
 abbrev pub chain-weight : {W : Type 0} → Ops W → (ℕ → W) → List (Rule W) → List Move → W
 chain-weight m floor rules [] = m .nothing
 chain-weight m floor rules (a ∷ moves) =

@@ -8,7 +8,7 @@ use Rattle.derivation.specs.Rules.{Rule}
 use Rattle.derivation.specs.Fit.{Fit}
 use Rattle.derivation.specs.Contexts.{Move, Chain, chain-weight, surveyed, context}
 
--- A rule with its facts replaced by their groups; a struck rule stays as it is.
+-- A rule over groups instead of facts. A struck rule is left alone.
 abbrev pub fold-rule : {W : Type 0} → (ℕ → ℕ) → Rule W → Rule W
 fold-rule group a =
     cond (a .struck) a (record { head = group (a .head); body = map group (a .body); effort = a .effort; struck = false })

@@ -29,8 +29,8 @@ Distinct (x ∷ xs) = (among xs x ≡ false) × Distinct xs
 abbrev pub heads : {W : Type 0} → Ops W → List (Rule W) → List ℕ → List ℕ
 heads m rules rs = map (λ r. rule-at m rules r .head) rs
 
--- A search answers out of reach exactly where the target has no derivation. Otherwise the line's derivation
--- derives the target, weighs what is answered, and no derivation of the target is lighter. The line has one rule for each of its facts.
+-- A search fails exactly where the target cannot be derived. Where it finds the target, the line gives a derivation of it at the answered
+-- weight, below which there is none. No two rules of a line conclude the same fact.
 pub record Optimal-at {W : Type 0} (m : Ops W) (rules : List (Rule W)) (target : ℕ) (s : State W) : Type 0 where
   pub unreached : answer m target s ≡ None → Derivable m rules target → ⊥
   pub underivable : (Derivable m rules target → ⊥) → answer m target s ≡ None
