@@ -1,7 +1,7 @@
 -- The search is optimal.
-use mathlib.Core.Bool.{Bool, true, false, cond}
-use mathlib.Core.List.{List, [], _∷_}
-use mathlib.Core.Logic.{_⊎_, inl, inr}
+use mathlib.Core.Bool.{Bool, true, false}
+use mathlib.Core.List.{List}
+use mathlib.Core.Logic.{inl, inr}
 use mathlib.Core.Path.{_≡_, refl, sym, _∙_, ap, subst}
 use Prim.Native.Nat.{ℕ}
 use native.Mathlib.Omega.{arith}
@@ -10,15 +10,15 @@ use Rattle.std.specs.declared.option.Option.the-variants.{Some, None}
 use Rattle.std.proofs.shelf.Tests.{both-ways, cases-bool, cond-true, cond-false}
 use Rattle.measure.specs.Ops.{Ops, Laws}
 use Rattle.derivation.specs.Rules.{Rule}
-use Rattle.derivation.specs.Trees.{Tree, node, Derives, weight, Derivable, Least, Lightest}
-use Rattle.derivation.specs.Fit.{Fit, Consistent}
-use Rattle.derivation.specs.Search.{State, final, answer, is-closed, weight-in, reached, queued}
+use Rattle.derivation.specs.Trees.{Tree, node, weight, Derivable, Lightest}
+use Rattle.derivation.specs.Fit.{Consistent}
+use Rattle.derivation.specs.Search.{State, answer, is-closed, weight-in, reached, queued}
 use Rattle.derivation.specs.Line.{line, line-tree}
 use Rattle.derivation.specs.Theorems.{Floors-below, Optimal-at, Optimal, Agree}
 use Rattle.derivation.proofs.Floors.{floor-below}
-use Rattle.derivation.proofs.Frontier.{Front, frontier}
+use Rattle.derivation.proofs.Frontier.{frontier}
 use Rattle.derivation.proofs.Log.{Recorded, line-recorded}
-use Rattle.derivation.proofs.Invariant.{Sound}
+use Rattle.derivation.proofs.Distinct.{distinct-line}
 use Rattle.derivation.proofs.Run.{Ended, final-ended}
 
 module _ {W : Type 0} {m : Ops W} (laws : Laws m) where
@@ -78,6 +78,7 @@ module _ {W : Type 0} {m : Ops W} (laws : Laws m) (rules : List (Rule W)) (floor
         lightest = λ w e d derives.
             let c = some-closed m t s w e in
             subst (λ x. m .leb x (weight m rules d) ≡ true) (c .1) (end .sound .lightest t (c .0) d derives);
+        distinct = distinct-line m rules (s .closed) (end .sound .log) t;
       }
 
 module _ {W : Type 0} {m : Ops W} (laws : Laws m) where

@@ -1,15 +1,15 @@
 -- The check of fit decides it.
 use mathlib.Core.Bool.{Bool, true, false, cond, not, _&&_, _||_}
 use mathlib.Core.List.{List, [], _∷_}
-use mathlib.Core.Logic.{_⊎_, inl, inr}
-use mathlib.Core.Path.{_≡_, refl, sym, _∙_, ap, subst}
+use mathlib.Core.Logic.{inl, inr}
+use mathlib.Core.Path.{_≡_, refl, sym, _∙_, subst}
 use Prim.Native.Nat.{ℕ, zero, suc, _+_, _<_}
 use native.Mathlib.Omega.{arith}
 use lib.ListN.{length}
-use Rattle.std.proofs.shelf.Tests.{both-ways, cases-bool, cases-eq, and-parts, and-from, or-left, or-cases, cond-true, cond-false}
+use Rattle.std.proofs.shelf.Tests.{both-ways, cases-eq, and-parts, and-from, or-cases}
 use Rattle.measure.specs.Ops.{Ops, Laws}
-use Rattle.derivation.specs.Rules.{Rule, rule-at, standing, Standing}
-use Rattle.derivation.specs.Fit.{all-below, floor-kept, rest-kept, Keeps, Consistent, Fit, rule-fits, Verdict, fits, target-fails, rule-fails, check-rules, check-fit}
+use Rattle.derivation.specs.Rules.{Rule, rule-at, Standing}
+use Rattle.derivation.specs.Fit.{all-below, floor-kept, rest-kept, Keeps, Consistent, rule-fits, Verdict, fits, target-fails, rule-fails, check-rules}
 use Rattle.derivation.specs.Theorems.{Decided-at, Decided}
 
 below-all : (n : ℕ) (p : ℕ → Bool) → all-below n p ≡ true → (i : ℕ) → i < n → p i ≡ true

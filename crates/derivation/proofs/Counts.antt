@@ -7,12 +7,12 @@ use Prim.Native.Nat.{ℕ, zero, suc, _+_, _≤_, _<_}
 use native.Mathlib.Omega.{arith}
 use lib.Dec.{eqb, ltb}
 use lib.ListN.{length}
-use Rattle.std.proofs.shelf.Tests.{cases-bool, cases-eq, eq-eqb, ne-eqb, lt-ltb, le-ltb, cond-true, cond-false}
+use Rattle.std.proofs.shelf.Tests.{cases-eq, eq-eqb, ne-eqb, lt-ltb, le-ltb, cond-false}
 use Rattle.measure.specs.Ops.{Ops}
 use Rattle.derivation.specs.Rules.{Rule, rule-at, Standing}
 use Rattle.derivation.specs.Search.{Closed, no-reason, is-closed, reason-in}
 use Rattle.derivation.specs.Theorems.{Once, count-below}
-use Rattle.derivation.proofs.Log.{Logged, Log}
+use Rattle.derivation.proofs.Log.{Log}
 use Rattle.derivation.proofs.Invariant.{standing-under}
 
 pub count-same : (p q : ℕ → Bool) → ((x : ℕ) → p x ≡ q x) → (n : ℕ) → count-below p n ≡ count-below q n

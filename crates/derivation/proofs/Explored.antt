@@ -1,17 +1,16 @@
 -- Which facts a search closes.
-use mathlib.Core.Bool.{Bool, true, false}
-use mathlib.Core.List.{List, [], _∷_}
-use mathlib.Core.Logic.{_⊎_, inl, inr}
+use mathlib.Core.Bool.{true}
+use mathlib.Core.Logic.{inl, inr}
 use mathlib.Core.Path.{_≡_, refl, sym, _∙_, subst}
 use Prim.Native.Nat.{ℕ}
 use Rattle.std.specs.declared.option.Option.the-variants.{Some}
 use Rattle.std.proofs.shelf.Tests.{both-ways, cases-bool}
 use Rattle.measure.specs.Ops.{Ops, Laws}
-use Rattle.derivation.specs.Trees.{Lightest, weight}
+use Rattle.derivation.specs.Trees.{weight}
 use Rattle.derivation.specs.Search.{final, is-closed, weight-in}
 use Rattle.derivation.specs.Theorems.{Exact}
 use Rattle.derivation.proofs.Log.{Recorded, line-recorded}
-use Rattle.derivation.proofs.Run.{Ended, final-ended}
+use Rattle.derivation.proofs.Run.{final-ended}
 use Rattle.derivation.proofs.Answered.{some-closed}
 use Rattle.derivation.proofs.Counts.{log-once, log-reasons, log-count, count-same}
 

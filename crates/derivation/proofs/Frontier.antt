@@ -1,19 +1,19 @@
 -- The frontier: a derivation of a fact that is not closed holds an entry of the queue, no heavier than it.
-use mathlib.Core.Bool.{Bool, true, false, not, _&&_}
+use mathlib.Core.Bool.{Bool, true, false}
 use mathlib.Core.List.{List, [], _∷_, map}
 use mathlib.Core.Logic.{_⊎_, inl, inr}
-use mathlib.Core.Path.{_≡_, refl, sym, _∙_, ap, subst}
-use Prim.Native.Nat.{ℕ, zero, suc, _<_}
+use mathlib.Core.Path.{_≡_, refl}
+use Prim.Native.Nat.{ℕ, suc, _<_}
 use native.Mathlib.Omega.{arith}
 use lib.ListN.{length, getD}
 use Rattle.std.proofs.shelf.Lists.{length-map}
-use Rattle.std.proofs.shelf.Tests.{both-ways, and-parts, and-from, not-from-false}
+use Rattle.std.proofs.shelf.Tests.{and-parts, and-from, not-from-false}
 use Rattle.measure.specs.Ops.{Ops, Laws}
-use Rattle.derivation.specs.Rules.{Rule, rule-at, standing, Standing}
+use Rattle.derivation.specs.Rules.{Rule, rule-at, Standing}
 use Rattle.derivation.specs.Joins.{joined, without}
 use Rattle.derivation.specs.Trees.{Tree, node, Trees, leaf, branch, Derives, DeriveAll, weight, weights, Least}
 use Rattle.derivation.specs.Fit.{Consistent}
-use Rattle.derivation.specs.Search.{State, Entry, is-closed, weight-in, all-closed, among, queued, entry}
+use Rattle.derivation.specs.Search.{State, is-closed, weight-in, all-closed, among, queued, entry}
 use Rattle.derivation.proofs.Weights.{Below, join-right, joined-below, without-below, place-below, part-right, chain-step, map-without, length-below}
 use Rattle.derivation.proofs.Floors.{floors-below}
 

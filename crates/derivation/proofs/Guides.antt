@@ -1,15 +1,15 @@
 -- The blank guide and the heavier of two guides fit.
-use mathlib.Core.Bool.{Bool, true, false, cond}
+use mathlib.Core.Bool.{true}
 use mathlib.Core.List.{List, [], _∷_, map}
 use mathlib.Core.Logic.{_⊎_, inl, inr}
-use mathlib.Core.Path.{_≡_, refl, sym, _∙_, ap, subst}
-use Prim.Native.Nat.{ℕ, _<_}
-use lib.ListN.{length, getD}
+use mathlib.Core.Path.{_≡_}
+use Prim.Native.Nat.{ℕ}
+use lib.ListN.{getD}
 use Rattle.std.proofs.shelf.Tests.{both-ways, cases-bool, cond-true, cond-false}
 use Rattle.measure.specs.Ops.{Ops, Laws}
-use Rattle.derivation.specs.Rules.{Rule, rule-at, Standing}
+use Rattle.derivation.specs.Rules.{Rule, rule-at}
 use Rattle.derivation.specs.Joins.{joined, without}
-use Rattle.derivation.specs.Fit.{Fit, Keeps, Consistent, beside}
+use Rattle.derivation.specs.Fit.{Consistent, beside}
 use Rattle.derivation.specs.Theorems.{heavier, Blank-fits, Heavier-fits}
 use Rattle.derivation.proofs.Weights.{Below, same, join-right, join-both, joined-below}
 

@@ -1,22 +1,22 @@
 -- What holds of every state of a search under a consistent guide.
-use mathlib.Core.Bool.{Bool, true, false, cond, not, _&&_, _||_}
-use mathlib.Core.List.{List, [], _∷_, map}
-use mathlib.Core.Logic.{_⊎_, inl, inr}
+use mathlib.Core.Bool.{Bool, true, false, cond, not, _&&_}
+use mathlib.Core.List.{List, [], _∷_}
+use mathlib.Core.Logic.{inl, inr}
 use mathlib.Core.Path.{_≡_, refl, sym, _∙_, ap, subst}
 use Prim.Native.Nat.{ℕ, zero, suc, _<_}
 use native.Mathlib.Omega.{arith}
 use lib.Dec.{eqb}
 use lib.ListN.{length}
 use Rattle.std.specs.declared.option.Option.{Option}
-use Rattle.std.specs.declared.option.Option.the-variants.{Some, None}
+use Rattle.std.specs.declared.option.Option.the-variants.{Some}
 use Rattle.std.proofs.shelf.Tests.{both-ways, and-parts, eqb-true, eq-eqb, ne-eqb, cond-true, cond-false, cases-bool, or-parts, or-left, or-from, not-true}
 use Rattle.measure.specs.Ops.{Ops, Laws}
 use Rattle.derivation.specs.Rules.{Rule, rule-at, standing, Standing}
 use Rattle.derivation.specs.Trees.{Tree, Derives, weight, Least}
 use Rattle.derivation.specs.Fit.{Consistent}
-use Rattle.derivation.specs.Search.{Closed, State, Entry, start, is-closed, weight-in, all-closed, among, queued, entry, least, take-entry, reached, after, step, onward, run, final}
-use Rattle.derivation.proofs.Queue.{First, Sought, sought}
-use Rattle.derivation.proofs.Log.{Logged, Log, weighed, or-eqb}
+use Rattle.derivation.specs.Search.{Closed, State, Entry, start, is-closed, weight-in, all-closed, among, queued, entry, take-entry, reached}
+use Rattle.derivation.proofs.Queue.{First}
+use Rattle.derivation.proofs.Log.{Logged, Log, or-eqb}
 use Rattle.derivation.proofs.Frontier.{Front, frontier}
 
 module _ {W : Type 0} (m : Ops W) (rules : List (Rule W)) (rest : ℕ → W) (target : Option ℕ) where

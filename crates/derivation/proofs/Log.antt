@@ -1,17 +1,16 @@
 -- The closed facts in order: each has a recorded derivation at its weight.
-use mathlib.Core.Bool.{Bool, true, false, cond, not, _&&_, _||_}
+use mathlib.Core.Bool.{Bool, true, false, cond, _||_}
 use mathlib.Core.List.{List, [], _∷_, _++_, map, reverse}
-use mathlib.Core.Logic.{_⊎_, inl, inr}
+use mathlib.Core.Logic.{inl, inr}
 use mathlib.Core.Path.{_≡_, refl, sym, _∙_, ap, ap₂, subst}
-use Prim.Native.Nat.{ℕ, zero, suc, _<_}
-use native.Mathlib.Omega.{arith}
+use Prim.Native.Nat.{ℕ}
 use lib.Dec.{eqb}
 use Rattle.std.proofs.shelf.Lists.{reverse-reverse}
 use Rattle.std.proofs.shelf.Tests.{both-ways, eqb-true, eq-eqb, and-parts, cond-true, cond-false, or-left, or-right, or-cases, ne-eqb}
-use Rattle.measure.specs.Ops.{Ops, Laws}
+use Rattle.measure.specs.Ops.{Ops}
 use Rattle.derivation.specs.Rules.{Rule, rule-at, Standing}
 use Rattle.derivation.specs.Joins.{joined}
-use Rattle.derivation.specs.Trees.{Tree, node, Trees, leaf, branch, Derives, DeriveAll, weight, weights}
+use Rattle.derivation.specs.Trees.{Tree, node, Trees, Derives, DeriveAll, weight, weights}
 use Rattle.derivation.specs.Search.{Closed, is-closed, weight-in, all-closed, among}
 use Rattle.derivation.specs.Line.{unwound, subtrees, tree-for, tree-back, line-tree}
 

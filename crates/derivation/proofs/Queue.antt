@@ -1,14 +1,14 @@
 -- The first entry of the queue: what its order gives.
-use mathlib.Core.Bool.{Bool, true, false, cond, not, _&&_, _||_}
+use mathlib.Core.Bool.{Bool, true, false, cond}
 use mathlib.Core.List.{List}
 use mathlib.Core.Logic.{_⊎_, inl, inr}
-use mathlib.Core.Path.{_≡_, refl, sym, _∙_, ap, subst}
+use mathlib.Core.Path.{_≡_, refl}
 use Prim.Native.Nat.{ℕ, zero, suc, _<_}
 use native.Mathlib.Omega.{arith}
 use lib.Dec.{leb}
 use Rattle.std.specs.declared.option.Option.{Option}
 use Rattle.std.specs.declared.option.Option.the-variants.{Some, None}
-use Rattle.std.proofs.shelf.Tests.{both-ways, cases-eq, and-parts}
+use Rattle.std.proofs.shelf.Tests.{both-ways, cases-eq}
 use Rattle.measure.specs.Ops.{Ops, Laws}
 use Rattle.derivation.specs.Rules.{Rule}
 use Rattle.derivation.specs.Search.{Entry, State, ahead, before, first, queued, entry, candidate, least}

@@ -1,8 +1,8 @@
 -- The search runs until the target is closed or the queue is empty, and its states are sound.
-use mathlib.Core.Bool.{Bool, true, false, cond, not}
-use mathlib.Core.List.{List, [], _∷_}
+use mathlib.Core.Bool.{Bool, true, false, cond}
+use mathlib.Core.List.{List}
 use mathlib.Core.Logic.{_⊎_, inl, inr}
-use mathlib.Core.Path.{_≡_, refl, sym, _∙_}
+use mathlib.Core.Path.{_≡_, refl}
 use Prim.Native.Nat.{ℕ, zero, suc, _<_}
 use native.Mathlib.Omega.{arith}
 use lib.ListN.{length}
@@ -12,7 +12,7 @@ use Rattle.std.proofs.shelf.Tests.{cases-bool}
 use Rattle.measure.specs.Ops.{Ops, Laws}
 use Rattle.derivation.specs.Rules.{Rule}
 use Rattle.derivation.specs.Fit.{Consistent}
-use Rattle.derivation.specs.Search.{State, Entry, start, among, queued, take-entry, least, reached, after, step, onward, run, final}
+use Rattle.derivation.specs.Search.{State, Entry, start, queued, take-entry, reached, after, step, onward, run, final}
 use Rattle.derivation.proofs.Queue.{First, Sought, sought}
 use Rattle.derivation.proofs.Invariant.{Sound, sound-start, sound-taken, queued-parts, queued-under}
 use Rattle.derivation.proofs.Untaken.{untaken, untaken-all, untaken-falls}

@@ -1,19 +1,18 @@
 -- A survey closes exactly the derivable facts, each at its lightest weight.
-use mathlib.Core.Bool.{Bool, true, false}
+use mathlib.Core.Bool.{true, false}
 use mathlib.Core.List.{List, [], _∷_}
-use mathlib.Core.Logic.{_⊎_, inl, inr}
-use mathlib.Core.Path.{_≡_, refl, sym, _∙_}
+use mathlib.Core.Logic.{inl, inr}
+use mathlib.Core.Path.{_≡_, refl, _∙_}
 use Prim.Native.Nat.{ℕ}
 use lib.Dec.{eqb}
-use Rattle.std.specs.declared.option.Option.the-variants.{Some, None}
+use Rattle.std.specs.declared.option.Option.the-variants.{None}
 use Rattle.std.proofs.shelf.Tests.{both-ways, cases-bool, cond-false, or-parts}
 use Rattle.measure.specs.Ops.{Ops, Laws}
-use Rattle.derivation.specs.Rules.{Rule}
-use Rattle.derivation.specs.Trees.{Derivable, Lightest}
-use Rattle.derivation.specs.Search.{Closed, State, survey, is-closed, weight-in, queued}
-use Rattle.derivation.specs.Theorems.{Surveyed-at, Surveyed}
+use Rattle.derivation.specs.Trees.{Derivable}
+use Rattle.derivation.specs.Search.{Closed, survey, is-closed, weight-in, queued}
+use Rattle.derivation.specs.Theorems.{Surveyed}
 use Rattle.derivation.proofs.Log.{Recorded, line-recorded}
-use Rattle.derivation.proofs.Run.{Ended, final-ended}
+use Rattle.derivation.proofs.Run.{final-ended}
 use Rattle.derivation.proofs.Answered.{none-left}
 use Rattle.derivation.proofs.Guides.{blank-consistent}
 

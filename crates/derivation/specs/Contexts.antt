@@ -1,6 +1,6 @@
 -- Contexts: for each fact the least weight of a chain of moves to the target.
-use mathlib.Core.Bool.{Bool, true, false, cond}
-use mathlib.Core.List.{List, [], _∷_, _++_, map}
+use mathlib.Core.Bool.{false, cond}
+use mathlib.Core.List.{List, [], _∷_, _++_}
 use mathlib.Core.Path.{_≡_}
 use Prim.Native.Nat.{ℕ, zero, suc, _<_}
 use lib.ListN.{length, getD}
@@ -14,24 +14,20 @@ pub record Move : Type 0 where
   pub rule : ℕ
   pub place : ℕ
 
-module _ {W : Type 0} (m : Ops W) (floor : ℕ → W) (rules : List (Rule W)) where
-  -- A move goes from the place to the head, and weighs the effort joined with the floors at the other places.
-  abbrev pub move-weight : Move → W
-  move-weight a = beside m floor (rule-at m rules (a .rule)) (a .place)
+-- A chain of moves from a fact to the target: each move enters a standing rule at one place of its body and leaves it at its head.
+abbrev pub Chain : {W : Type 0} → Ops W → List (Rule W) → List Move → ℕ → ℕ → Type 0
+Chain m rules [] f target = f ≡ target
+Chain m rules (a ∷ moves) f target =
+    Standing m rules (a .rule)
+    × (a .place < length (rule-at m rules (a .rule) .body))
+    × (getD (rule-at m rules (a .rule) .body) (a .place) 0 ≡ f)
+    × Chain m rules moves (rule-at m rules (a .rule) .head) target
 
-  -- A chain of moves from a fact to the target.
-  abbrev pub Chain : List Move → ℕ → ℕ → Type 0
-  Chain [] f target = f ≡ target
-  Chain (a ∷ moves) f target =
-      Standing m rules (a .rule)
-      × (a .place < length (rule-at m rules (a .rule) .body))
-      × (getD (rule-at m rules (a .rule) .body) (a .place) 0 ≡ f)
-      × Chain moves (rule-at m rules (a .rule) .head) target
-
-  -- A chain weighs the join of its moves.
-  abbrev pub chain-weight : List Move → W
-  chain-weight [] = m .nothing
-  chain-weight (a ∷ moves) = m .join (move-weight a) (chain-weight moves)
+-- The weight of a chain. A move costs what its rule costs beside the place where it enters.
+abbrev pub chain-weight : {W : Type 0} → Ops W → (ℕ → W) → List (Rule W) → List Move → W
+chain-weight m floor rules [] = m .nothing
+chain-weight m floor rules (a ∷ moves) =
+    m .join (beside m floor (rule-at m rules (a .rule)) (a .place)) (chain-weight m floor rules moves)
 
 -- A move as a rule: it concludes the fact at the place from the head.
 abbrev pub move-rule : {W : Type 0} → Ops W → (ℕ → W) → Rule W → ℕ → Rule W
@@ -58,11 +54,3 @@ surveyed m rules f = weight-of m (survey m rules) f
 
 unfoldable pub context : {W : Type 0} → Ops W → (ℕ → W) → List (Rule W) → ℕ → ℕ → W
 context m floor rules target f = surveyed m (context-rules m floor rules target) f
-
--- A rule with its facts replaced by their groups; a struck rule stays as it is.
-abbrev pub fold-rule : {W : Type 0} → (ℕ → ℕ) → Rule W → Rule W
-fold-rule group a =
-    cond (a .struck) a (record { head = group (a .head); body = map group (a .body); effort = a .effort; struck = false })
-
-abbrev pub fold-rules : {W : Type 0} → (ℕ → ℕ) → List (Rule W) → List (Rule W)
-fold-rules group rules = map (fold-rule group) rules

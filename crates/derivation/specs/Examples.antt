@@ -1,5 +1,5 @@
 -- Worked examples of the definitions, as one table.
-use mathlib.Core.Bool.{Bool, true, false}
+use mathlib.Core.Bool.{false}
 use mathlib.Core.List.{List, [], _∷_, _++_, map}
 use mathlib.Core.Path.{_≡_}
 use Prim.Native.Nat.{ℕ, zero, suc}
@@ -8,17 +8,17 @@ use Rattle.std.specs.declared.option.Option.{Option}
 use Rattle.std.specs.declared.option.Option.the-variants.{Some, None}
 use Rattle.measure.specs.declared.total.Total.{Total}
 use Rattle.measure.specs.declared.hardest.Hardest.{Hardest}
-use Rattle.measure.specs.declared.total_steps.TotalSteps.{TotalSteps}
 use Rattle.measure.specs.Ops.{Ops}
 use Rattle.measure.specs.Total.{total-ops, of-total}
 use Rattle.measure.specs.Hardest.{hardest-ops, of-hardest}
 use Rattle.measure.specs.TotalSteps.{total-steps-ops, pair}
 use Rattle.derivation.specs.Rules.{Rule}
-use Rattle.derivation.specs.Fit.{Verdict, fits, target-fails, rule-fails, check-fit}
+use Rattle.derivation.specs.Fit.{fits, target-fails, rule-fails, check-fit}
 use Rattle.derivation.specs.Trees.{weight}
-use Rattle.derivation.specs.Search.{State, final, answer, closed-count, taken-count, weight-of, reason-of}
+use Rattle.derivation.specs.Search.{final, answer, closed-count, taken-count, weight-of, reason-of}
 use Rattle.derivation.specs.Line.{line, line-tree}
-use Rattle.derivation.specs.Contexts.{surveyed, context, fold-rules}
+use Rattle.derivation.specs.Contexts.{surveyed, context}
+use Rattle.derivation.specs.Maps.{fold-rules}
 
 -- A rule with a cost, read under a measure.
 abbrev pub rule : {W : Type 0} → Ops W → ℕ → List ℕ → ℕ → Rule W

@@ -14,16 +14,16 @@ all-below zero p = true
 all-below (suc n) p = all-below n p && p n
 
 module _ {W : Type 0} (m : Ops W) (floor : ℕ → W) where
-  -- The floor of the head is no heavier than the effort joined with the floors of the whole body.
+  -- What the rule would make of its body's floors is no lighter than its head's floor.
   abbrev pub floor-kept : Rule W → Bool
   floor-kept a = m .leb (floor (a .head)) (m .join (a .effort) (joined m (map floor (a .body))))
 
-  -- What a rule weighs apart from one place of its body: the effort joined with the floors at the other places.
+  -- What a rule costs beside one place of its body, with every other place at its floor.
   abbrev pub beside : Rule W → ℕ → W
   beside a i = m .join (a .effort) (joined m (map floor (without (a .body) i)))
 
 module _ {W : Type 0} (m : Ops W) (floor rest : ℕ → W) where
-  -- The rest of the fact at a place is no heavier than that joined with the rest of the head.
+  -- From a place there is no more rest than what the rule costs beside it and the rest of its head.
   abbrev pub rest-kept : Rule W → ℕ → Bool
   rest-kept a i = m .leb (rest (getD (a .body) i 0)) (m .join (beside m floor a i) (rest (a .head)))
 

@@ -5,5 +5,6 @@ pub mod Fit
 pub mod Search
 pub mod Line
 pub mod Contexts
+pub mod Maps
 pub mod Theorems
 pub mod Examples

@@ -1,5 +1,5 @@
 -- The line of a search, and the derivation that it stands for.
-use mathlib.Core.Bool.{Bool, cond}
+use mathlib.Core.Bool.{cond}
 use mathlib.Core.List.{List, [], _∷_, _++_, reverse}
 use Prim.Native.Nat.{ℕ}
 use lib.Dec.{eqb}
@@ -15,7 +15,7 @@ module _ {W : Type 0} (m : Ops W) (rules : List (Rule W)) where
   unwound (c ∷ cs) needed =
       cond (among needed (c .fact)) (c .rule ∷ unwound cs (rule-at m rules (c .rule) .body ++ needed)) (unwound cs needed)
 
-  -- The line: the rules of the closed facts that the target needs, itself included, in closing order.
+  -- The line: what a derivation of the target uses of the closed list, oldest first, the target's own rule at the end.
   abbrev pub line : State W → ℕ → List ℕ
   line s target = reverse (unwound (s .closed) (target ∷ []))
 
@@ -25,8 +25,8 @@ subtrees tree [] = leaf
 subtrees tree (f ∷ fs) = branch (tree f) (subtrees tree fs)
 
 module _ {W : Type 0} (m : Ops W) (rules : List (Rule W)) where
-  -- The tree for a fact from the rules of a line, the last first: the line's rule for that fact,
-  -- and below it the trees for its body from the rules before it.
+  -- The tree for a fact from the rules of a line, the last first: the rule that concludes the fact,
+  -- over the trees for its body from the rules before it.
   abbrev pub tree-for : List ℕ → ℕ → Tree
   tree-for [] f = node no-reason leaf
   tree-for (r ∷ rs) f =
@@ -36,6 +36,6 @@ module _ {W : Type 0} (m : Ops W) (rules : List (Rule W)) where
   tree-back [] = node no-reason leaf
   tree-back (r ∷ rs) = node r (subtrees (tree-for rs) (rule-at m rules r .body))
 
-  -- The derivation that a line stands for: its last rule at the root and, at each place below, the line's rule for the fact there.
+  -- The derivation that a line stands for. The last rule is the root; every fact of a body is derived by the rule of the line that concludes it.
   abbrev pub line-tree : List ℕ → Tree
   line-tree rs = tree-back (reverse rs)

@@ -2,7 +2,7 @@
 use mathlib.Core.Bool.{Bool, true, false, cond, not, _&&_, _||_}
 use mathlib.Core.List.{List, [], _∷_, map}
 use Prim.Native.Nat.{ℕ, zero, suc}
-use lib.Dec.{leb, eqb}
+use lib.Dec.{eqb}
 use lib.ListN.{length}
 use Rattle.std.specs.declared.option.Option.{Option}
 use Rattle.std.specs.declared.option.Option.the-variants.{Some, None}
@@ -78,7 +78,7 @@ module _ {W : Type 0} (m : Ops W) (rules : List (Rule W)) where
       }
 
 module _ {W : Type 0} (m : Ops W) (rules : List (Rule W)) (rest : ℕ → W) where
-  -- The entry of a rule: its weight is its effort joined with the weights of its body.
+  -- The entry of a rule: it weighs the effort and the weights that its body was closed at, joined.
   unfoldable pub entry : List (Closed W) → ℕ → Entry W
   entry cs r =
       let a = rule-at m rules r in

@@ -1,16 +1,16 @@
 -- What is proved of fit, of the search and of its line, for every measure that keeps its laws.
 use mathlib.Core.Bool.{Bool, true, false, cond}
-use mathlib.Core.List.{List, [], _∷_}
+use mathlib.Core.List.{List, [], _∷_, map}
 use mathlib.Core.Path.{_≡_}
 use Prim.Native.Nat.{ℕ, zero, suc, _<_, _≤_, _+_}
 use lib.Dec.{ltb}
-use lib.ListN.{length}
+use lib.ListN.{length, getD}
 use Rattle.std.specs.declared.option.Option.the-variants.{Some, None}
 use Rattle.measure.specs.Ops.{Ops}
 use Rattle.derivation.specs.Rules.{Rule, rule-at, Standing}
 use Rattle.derivation.specs.Trees.{Tree, Derives, weight, Derivable, Least, Lightest}
 use Rattle.derivation.specs.Fit.{Fit, Keeps, Verdict, fits, target-fails, rule-fails, check-fit}
-use Rattle.derivation.specs.Search.{Closed, State, no-reason, final, survey, answer, is-closed, weight-of, reason-of, closed-count}
+use Rattle.derivation.specs.Search.{Closed, State, no-reason, final, survey, answer, among, is-closed, weight-of, reason-of, closed-count}
 use Rattle.derivation.specs.Line.{line, line-tree}
 
 -- The floors of a fitting guide are no heavier than any derivation.
@@ -20,14 +20,24 @@ Floors-below {W} m =
     → Fit m floor rest rules target
     → (f : ℕ) → Least m rules f (floor f)
 
--- A search answers out of reach exactly where the target has no derivation. Otherwise the line's derivation
--- derives the target, weighs what is answered, and no derivation of the target is lighter.
+-- No number stands twice in a list.
+abbrev pub Distinct : List ℕ → Type 0
+Distinct [] = Unit {0}
+Distinct (x ∷ xs) = (among xs x ≡ false) × Distinct xs
+
+-- The facts that the rules of a line conclude.
+abbrev pub heads : {W : Type 0} → Ops W → List (Rule W) → List ℕ → List ℕ
+heads m rules rs = map (λ r. rule-at m rules r .head) rs
+
+-- A search fails exactly where the target cannot be derived. Where it finds the target, the line gives a derivation of it at the answered
+-- weight, below which there is none. No two rules of a line conclude the same fact.
 pub record Optimal-at {W : Type 0} (m : Ops W) (rules : List (Rule W)) (target : ℕ) (s : State W) : Type 0 where
   pub unreached : answer m target s ≡ None → Derivable m rules target → ⊥
   pub underivable : (Derivable m rules target → ⊥) → answer m target s ≡ None
   pub derives : (w : W) → answer m target s ≡ Some w → Derives m rules (line-tree m rules (line m rules s target)) target
   pub weighs : (w : W) → answer m target s ≡ Some w → weight m rules (line-tree m rules (line m rules s target)) ≡ w
   pub lightest : (w : W) → answer m target s ≡ Some w → Least m rules target w
+  pub distinct : Distinct (heads m rules (line m rules s target))
 
 abbrev pub Optimal : {W : Type 0} → Ops W → Type 0
 Optimal {W} m =
@@ -120,3 +130,15 @@ abbrev pub Decided : {W : Type 0} → Ops W → Type 0
 Decided {W} m =
     (rules : List (Rule W)) (floor rest : ℕ → W) (target : ℕ)
     → Decided-at m floor rest rules target (check-fit m floor rest rules target)
+
+-- Whether a guide fits depends only on what it answers for the facts that standing rules name, and for the target.
+abbrev pub Fit-below : {W : Type 0} → Ops W → Type 0
+Fit-below {W} m =
+    (rules : List (Rule W)) (floor rest floor′ rest′ : ℕ → W) (target facts : ℕ)
+    → ((r : ℕ) → Standing m rules r → rule-at m rules r .head < facts)
+    → ((r i : ℕ) → Standing m rules r → i < length (rule-at m rules r .body) → getD (rule-at m rules r .body) i 0 < facts)
+    → target < facts
+    → ((f : ℕ) → f < facts → floor f ≡ floor′ f)
+    → ((f : ℕ) → f < facts → rest f ≡ rest′ f)
+    → Fit m floor rest rules target
+    → Fit m floor′ rest′ rules target

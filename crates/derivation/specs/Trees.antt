@@ -29,7 +29,7 @@ module _ {W : Type 0} (m : Ops W) (rules : List (Rule W)) where
     DeriveAll (branch t ts) (f ∷ fs) = Derives t f × DeriveAll ts fs
 
   abbrev mutual
-    -- A derivation weighs the effort of its root joined with the weights of its subtrees.
+    -- The weight of a tree: its root's effort and every subtree's weight, joined.
     pub weight : Tree → W
     weight (node r ts) = m .join (rule-at m rules r .effort) (joined m (weights ts))
 
@@ -45,6 +45,6 @@ module _ {W : Type 0} (m : Ops W) (rules : List (Rule W)) where
   abbrev pub Least : ℕ → W → Type 0
   Least f w = (t : Tree) → Derives t f → m .leb w (weight t) ≡ true
 
-  -- w is the lightest weight of f: that of one derivation than which none is lighter.
+  -- w is the lightest weight of f: some derivation weighs w, and none weighs less.
   abbrev pub Lightest : ℕ → W → Type 0
   Lightest f w = (t : Tree) × Derives t f × (weight t ≡ w) × Least f w

@@ -1,6 +1,7 @@
 // Derivations from weighted rules, and the search for a lightest one: definitions and theorems.
 // A function here does nothing: its contract is a theorem, for every measure W.
-ghost use Rattle.derivation.specs.Theorems.{Floors-below, Optimal, Exact, Agree, Surveyed, Blank-fits, Heavier-fits, Decided};
+ghost use Rattle.derivation.specs.Theorems.{Floors-below, Optimal, Exact, Agree, Surveyed, Blank-fits, Heavier-fits, Fit-below, Decided};
+ghost use Rattle.derivation.specs.Maps.{Contexts-least, Map-fits};
 ghost use Rattle.derivation.specs.Examples.{Table};
 use measure::Measure;
 
@@ -53,9 +54,30 @@ pub fn heavier_fits<W: Measure>() -> u8
     0
 }
 
+// Fit depends only on the facts that standing rules name, and on the target.
+pub fn fit_below<W: Measure>() -> u8
+    ensures { λ _. ⌜ Fit-below (W·Measure .ops) ⌝ }
+{
+    0
+}
+
 // The check of fit decides it, and tells what fails first.
 pub fn decided<W: Measure>() -> u8
     ensures { λ _. ⌜ Decided (W·Measure .ops) ⌝ }
+{
+    0
+}
+
+// Contexts give each fact the least weight of a chain of moves to the target.
+pub fn contexts_least<W: Measure>() -> u8
+    ensures { λ _. ⌜ Contexts-least (W·Measure .ops) ⌝ }
+{
+    0
+}
+
+// A guide made from any map of the facts fits.
+pub fn map_fits<W: Measure>() -> u8
+    ensures { λ _. ⌜ Map-fits (W·Measure .ops) ⌝ }
 {
     0
 }
