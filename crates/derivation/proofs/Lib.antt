@@ -1,20 +1,20 @@
-mod Examples
-mod Weights
-mod Floors
-mod Queue
-mod Log
-mod Distinct
-mod Frontier
-mod Invariant
-mod Untaken
-mod Run
-mod Answered
-mod Guides
-mod Named
-mod Surveys
-mod Counts
-mod Explored
-mod Checked
-mod Moves
-mod Chains
-mod MapGuide
+pub mod Examples
+pub mod Weights
+pub mod Floors
+pub mod Queue
+pub mod Log
+pub mod Distinct
+pub mod Frontier
+pub mod Invariant
+pub mod Untaken
+pub mod Run
+pub mod Answered
+pub mod Guides
+pub mod Named
+pub mod Surveys
+pub mod Counts
+pub mod Explored
+pub mod Checked
+pub mod Moves
+pub mod Chains
+pub mod MapGuide

@@ -1,1 +1,1 @@
-pub mod Guides
+pub mod Weighted

@@ -1,6 +1,6 @@
 // The heavier of two guides: fact by fact the heavier floor and the heavier rest.
 ghost use mathlib.Core.Path.{_≡_};
-ghost use Rattle.guide.specs.Guides.{heavier as heavier-weight};
+ghost use Rattle.derivation.specs.Theorems.{heavier as heavier-weight};
 use crate::Guide;
 use measure::Measure;
 

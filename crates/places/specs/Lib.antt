@@ -1,4 +1,3 @@
-pub mod Weighted
 pub mod Entries
 pub mod Chains
 pub mod Waiting
