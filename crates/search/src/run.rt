@@ -1,13 +1,25 @@
 // The main loop.
-use crate::columns::NO_RULE;
-use crate::visit::walk;
+ghost use mathlib.Core.Bool.{true};
+ghost use mathlib.Core.List.{[]};
+ghost use mathlib.Core.Path.{_≡_};
+ghost use Prim.Native.Nat.{_+_, _*_, _≤_};
+ghost use lib.ListN.{length};
+ghost use Rattle.derivation.specs.Search.{start, closed-count, taken-count};
+ghost use Rattle.places.specs.Chains.{Chained};
+ghost use Rattle.places.specs.Waiting.{unready, Ready};
+ghost use Rattle.search.specs.Shown.{Shows, Running, wanted, outcome, run-answer};
+ghost use Rattle.sheet.specs.Slots.{passes};
 use guide::Guide;
 use measure::Measure;
+use places::visit::walk;
 use queue::entry::Entry;
 use queue::entry::EntryOrder;
 use queue::heap::take;
 use sheet::refusal::Refusal;
 use sheet::slot::Slot;
+
+// The reason of a fact that is not closed.
+pub const NO_RULE: u16 = 65_535;
 
 // The numbers of facts closed and of entries taken.
 #[derive(Clone, Copy)]
@@ -16,10 +28,20 @@ pub struct Counts {
     pub taken: u16,
 }
 
+// Whether the fact is the target; a survey has none.
+fn is_target(target: Option<u16>, fact: u16) -> bool
+    ensures { λ r. ⌜ r ≡ wanted target fact ⌝ }
+{
+    match target {
+        Some(t) => fact == t,
+        None => false,
+    }
+}
+
 // Takes entries until the target is closed; out of reach where the queue runs empty first.
 pub fn run<W: Measure, G: Guide<W>>(
     slots: &[Slot],
-    target: u16,
+    target: Option<u16>,
     guide: &G,
     weights: &mut [W],
     reasons: &mut [u16],
@@ -29,10 +51,21 @@ pub fn run<W: Measure, G: Guide<W>>(
     missing: &mut [u16],
     queue: &mut [Entry<W>],
     first: usize,
-) -> Result<Counts, Refusal> {
+) -> Result<Counts, Refusal>
+    requires long { ⌜ (length (now reasons) ≡ length (now weights)) × (length (now order) ≡ length (now weights)) × (length (now heads) ≡ length (now weights)) × (length (now missing) ≡ length (now slots)) ⌝ }
+    requires few { ⌜ (length (now slots) ≤ 16000) × (length (now weights) ≤ 4096) × (4 * length (now slots) ≤ length (now next)) × (length (now slots) ≤ length (now queue)) ⌝ }
+    requires within { ⌜ passes (length (now weights)) (now slots) ≡ true ⌝ }
+    requires chained { ⌜ Chained (now slots) (now heads) (now next) (4 * length (now slots)) ⌝ }
+    requires shown { ⌜ Shows (W·Measure .ops) start (now weights) (now reasons) (now order) 0 0 ⌝ }
+    requires running { ⌜ Running (now slots) (start {W = W}) (now reasons) (now missing) 0 ⌝ }
+    requires ready { ⌜ Ready (W·Measure .ops) (G·Guide .rest (now guide)) (now slots) (now weights) [] (now missing) (now queue) first ⌝ }
+    requires room { ⌜ first + unready (now missing) ≤ length (now slots) ⌝ }
+    ensures answered { λ r. ⌜ r ≡ run-answer target (outcome (W·Measure .ops) (now (slots .entry)) (G·Guide .rest (now (guide .entry))) target) ⌝ }
+    ensures shows { λ _. ⌜ Shows (W·Measure .ops) (outcome (W·Measure .ops) (now (slots .entry)) (G·Guide .rest (now (guide .entry))) target) (now (weights .exit)) (now (reasons .exit)) (now (order .exit)) (closed-count (outcome (W·Measure .ops) (now (slots .entry)) (G·Guide .rest (now (guide .entry))) target)) (taken-count (outcome (W·Measure .ops) (now (slots .entry)) (G·Guide .rest (now (guide .entry))) target)) ⌝ }
+{
     let mut count = first;
-    let mut closed = 0;
-    let mut taken = 0;
+    let mut closed: u16 = 0;
+    let mut taken: u16 = 0;
     loop {
         let Some(entry) = take(queue, count) else {
             return Err(Refusal::OutOfReach(closed, taken));
@@ -47,18 +80,9 @@ pub fn run<W: Measure, G: Guide<W>>(
         reasons[head as usize] = entry.rule;
         order[closed as usize] = head;
         closed += 1;
-        if head == target {
+        if is_target(target, head) {
             return Ok(Counts { closed, taken });
         }
-        count = walk(
-            slots,
-            heads[head as usize],
-            next,
-            weights,
-            guide,
-            missing,
-            queue,
-            count,
-        );
+        count = walk(slots, head, heads, next, weights, guide, missing, queue, count);
     }
 }

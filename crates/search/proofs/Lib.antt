@@ -1,0 +1,4 @@
+pub mod Least
+pub mod Opening
+pub mod Matching
+pub mod Steps
