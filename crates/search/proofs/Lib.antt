@@ -2,3 +2,4 @@ pub mod Least
 pub mod Opening
 pub mod Matching
 pub mod Steps
+pub mod Turns

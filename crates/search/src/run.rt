@@ -2,8 +2,8 @@
 ghost use mathlib.Core.Bool.{true};
 ghost use mathlib.Core.List.{[]};
 ghost use mathlib.Core.Path.{_≡_};
-ghost use Prim.Native.Nat.{_+_, _*_, _≤_};
-ghost use lib.ListN.{length};
+ghost use Prim.Native.Nat.{_+_, _*_, _<_, _≤_};
+ghost use lib.ListN.{length, set};
 ghost use Rattle.derivation.specs.Search.{start, closed-count, taken-count};
 ghost use Rattle.places.specs.Chains.{Chained};
 ghost use Rattle.places.specs.Waiting.{unready, Ready};
@@ -36,6 +36,14 @@ fn is_target(target: Option<u16>, fact: u16) -> bool
         Some(t) => fact == t,
         None => false,
     }
+}
+
+// Writes one element of a column.
+fn store<W: Copy>(column: &mut [W], i: usize, value: W)
+    requires { ⌜ i < length (now column) ⌝ }
+    ensures { λ _. ⌜ now (column .exit) ≡ set (now (column .entry)) i value ⌝ }
+{
+    column[i] = value;
 }
 
 // Takes entries until the target is closed; out of reach where the queue runs empty first.
@@ -76,7 +84,7 @@ pub fn run<W: Measure, G: Guide<W>>(
         if reasons[head as usize] != NO_RULE {
             continue;
         }
-        weights[head as usize] = entry.weight;
+        store(weights, head as usize, entry.weight);
         reasons[head as usize] = entry.rule;
         order[closed as usize] = head;
         closed += 1;
