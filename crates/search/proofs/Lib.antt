@@ -3,3 +3,4 @@ pub mod Opening
 pub mod Matching
 pub mod Steps
 pub mod Turns
+pub mod Unwinding

@@ -36,7 +36,7 @@ use Rattle.search.proofs.Matching.{head-is, length-weighted, queued-is, entry-
 pub record Loop {W : Type 0} (m : Ops W) (xs : List Slot) (rest : ℕ → W) (target : Option ℕ)
     (weights : List W) (reasons order missing : List ℕ) (queue : List (Entry W)) (count closed taken : ℕ) : Type 0 where
   pub state : State W
-  pub shows : Shows m state weights reasons order closed taken
+  pub shows : Shows m xs state weights reasons order closed taken
   pub running : Running xs state reasons missing closed
   pub ready : Ready m rest xs weights (state .taken) missing queue count
   pub room : taken + (count + unready missing) ≤ length xs
@@ -49,7 +49,7 @@ start-unreached W (Some t) = refl
 
 module _ {W : Type 0} (m : Ops W) (xs : List Slot) (rest : ℕ → W) (target : Option ℕ) where
   pub loop-start : (weights : List W) (reasons order missing : List ℕ) (queue : List (Entry W)) (first : ℕ)
-      → Shows m start weights reasons order 0 0 → Running xs (start {W = W}) reasons missing 0
+      → Shows m xs start weights reasons order 0 0 → Running xs (start {W = W}) reasons missing 0
       → Ready m rest xs weights [] missing queue first → first + unready missing ≤ length xs
       → Loop m xs rest target weights reasons order missing queue first 0 0
   unfolding outcome final
@@ -174,6 +174,7 @@ module _ {W : Type 0} {m : Ops W} (laws : Laws m) (xs : List Slot) (rest : ℕ �
         weights-at = now .shows .weights-at;
         reasons-at = now .shows .reasons-at;
         order-is = now .shows .order-is;
+        named = now .shows .named;
         closed-is = now .shows .closed-is;
         taken-is = rw add-one (ap suc (now .shows .taken-is));
       };
@@ -209,7 +210,7 @@ module _ {W : Type 0} {m : Ops W} (laws : Laws m) (xs : List Slot) (rest : ℕ �
           let le = getD-le-sumBy (λ (k : ℕ). bit (eqb k no-reason)) reasons h no-reason (omega (arith, head-under, same-reasons)) in
           omega (arith, now .running .free, one, le, same-reasons, same-order)
 
-      shows-closed : Shows m s′ (set weights h (x .weight)) (set reasons h r) (set order closed h) (closed + 1) (taken + 1)
+      shows-closed : Shows m xs s′ (set weights h (x .weight)) (set reasons h r) (set order closed r) (closed + 1) (taken + 1)
       shows-closed = record {
         weights-at = λ f. elim (cases-eq f h) [
           | inl e ↦ rw (e, eq-eqb h h refl) (getD-set-same weights h (x .weight) (m .heaviest) head-under)
@@ -219,7 +220,8 @@ module _ {W : Type 0} {m : Ops W} (laws : Laws m) (xs : List Slot) (rest : ℕ �
           | inl e ↦ rw (e, eq-eqb h h refl) (getD-set-same reasons h r no-reason (omega (arith, head-under, same-reasons)))
           | inr e ↦ rw (ne-eqb h f (λ q. e (sym q))) (getD-set-other reasons h f r no-reason e ∙ now .shows .reasons-at f)
         ];
-        order-is = take-more-set order closed h order-room ∙ ap (λ l. l ++ (h ∷ [])) (now .shows .order-is) ∙ sym (reverse-cons h (map (λ (d : Closed W). d .fact) (s .closed)));
+        order-is = take-more-set order closed r order-room ∙ ap (λ l. l ++ (r ∷ [])) (now .shows .order-is) ∙ sym (reverse-cons r (map (λ (d : Closed W). d .rule) (s .closed)));
+        named = ((rule-under, waits .stands, refl), now .shows .named);
         closed-is = rw add-one (ap suc (now .shows .closed-is));
         taken-is = rw add-one (ap suc (now .shows .taken-is));
       }
@@ -235,12 +237,12 @@ module _ {W : Type 0} {m : Ops W} (laws : Laws m) (xs : List Slot) (rest : ℕ �
       found e = sym (run-ended laws (weighted m xs) rest target s′ (step-reached laws (weighted m xs) rest target s′ (is-reached ∙ e)) (suc (length xs) - (taken + 1))) ∙ on-closed
 
       pub record Found : Type 0 where
-        pub shows : Shows m (outcome m xs rest target) (set weights h (x .weight)) (set reasons h r) (set order closed h) (closed + 1) (taken + 1)
+        pub shows : Shows m xs (outcome m xs rest target) (set weights h (x .weight)) (set reasons h r) (set order closed r) (closed + 1) (taken + 1)
         pub reached-target : reached target (outcome m xs rest target) ≡ true
 
       pub found-shows : wanted target h ≡ true → Found
       found-shows e = record {
-        shows = subst (λ (z : State W). Shows m z (set weights h (x .weight)) (set reasons h r) (set order closed h) (closed + 1) (taken + 1)) (found e) shows-closed;
+        shows = subst (λ (z : State W). Shows m xs z (set weights h (x .weight)) (set reasons h r) (set order closed r) (closed + 1) (taken + 1)) (found e) shows-closed;
         reached-target = ap (reached target) (sym (found e)) ∙ is-reached ∙ e;
       }
 
@@ -280,7 +282,7 @@ module _ {W : Type 0} {m : Ops W} (laws : Laws m) (xs : List Slot) (rest : ℕ �
           → ((k : ℕ) → getD missing′ k 0 + uses xs h k (4 * length xs) ≡ getD missing k 0)
           → count′ + unready missing′ ≡ (count - 1) + unready missing
           → ((gone : List ℕ) → Ready m rest xs (set weights h (x .weight)) gone missing queue′ (count - 1) → Ready m rest xs (set weights h (x .weight)) gone missing′ queue″ count′)
-          → Loop m xs rest target (set weights h (x .weight)) (set reasons h r) (set order closed h) missing′ queue″ count′ (closed + 1) (taken + 1)
+          → Loop m xs rest target (set weights h (x .weight)) (set reasons h r) (set order closed r) missing′ queue″ count′ (closed + 1) (taken + 1)
       walked missing′ queue″ count′ w left total kept = record {
         state = s′;
         shows = shows-closed;

@@ -31,11 +31,11 @@ abbrev counts : ℕ → ℕ → Counts
 counts c t = record { closed = c; taken = t }
 
 -- a state that the columns show, as the answer tells it
-told : {W : Type 0} (m : Ops W) (s : State W) (target : Option ℕ) (weights : List W) (reasons order : List ℕ) (closed taken : ℕ)
-    → Shows m s weights reasons order closed taken → Shows m s weights reasons order (closed-count s) (taken-count s)
-told m s target weights reasons order closed taken h =
-    subst (λ (k : ℕ). Shows m s weights reasons order (closed-count s) k) (h .taken-is)
-    (subst (λ (k : ℕ). Shows m s weights reasons order k taken) (h .closed-is) h)
+told : {W : Type 0} (m : Ops W) (xs : List Slot) (s : State W) (target : Option ℕ) (weights : List W) (reasons order : List ℕ) (closed taken : ℕ)
+    → Shows m xs s weights reasons order closed taken → Shows m xs s weights reasons order (closed-count s) (taken-count s)
+told m xs s target weights reasons order closed taken h =
+    subst (λ (k : ℕ). Shows m xs s weights reasons order (closed-count s) k) (h .taken-is)
+    (subst (λ (k : ℕ). Shows m xs s weights reasons order k taken) (h .closed-is) h)
 
 module _ {W : Type 0} {m : Ops W} (laws : Laws m) (xs : List Slot) (rest : ℕ → W) (target : Option ℕ)
     (weights : List W) (reasons order missing : List ℕ) (queue : List (Entry W)) (count closed taken : ℕ)
@@ -44,15 +44,15 @@ module _ {W : Type 0} {m : Ops W} (laws : Laws m) (xs : List Slot) (rest : ℕ �
   abbrev end : State W
   end = outcome m xs rest target
 
-  pub shown-out : count ≡ 0 → (Err (OutOfReach closed taken) ≡ run-answer target end) × Shows m end weights reasons order (closed-count end) (taken-count end)
+  pub shown-out : count ≡ 0 → (Err (OutOfReach closed taken) ≡ run-answer target end) × Shows m xs end weights reasons order (closed-count end) (taken-count end)
   shown-out z =
       let e = ended laws xs rest target weights reasons order missing queue count closed taken lengths within now z in
-      let shows = subst (λ (s : State W). Shows m s weights reasons order closed taken) e (now .shows) in
+      let shows = subst (λ (s : State W). Shows m xs s weights reasons order closed taken) e (now .shows) in
       let none : reached target end ≡ false = ap (reached target) (sym e) ∙ now .unreached in
       let answer : ℕ → ℕ → Result Counts Refusal = λ k l. Err (OutOfReach k l) in
       let same = ap (λ (k : ℕ). answer k taken) (shows .closed-is) ∙ ap (answer (closed-count end)) (shows .taken-is) in
       (same ∙ sym (cond-false (reached target end) (Ok (counts (closed-count end) (taken-count end))) (Err (OutOfReach (closed-count end) (taken-count end))) none),
-       told m end target weights reasons order closed taken shows)
+       told m xs end target weights reasons order closed taken shows)
 
   module _ (queue′ : List (Entry W)) (x : Entry W) (out : Removed (entry-leb m) queue count queue′ x)
       (head : ℕ) (is-head : head ≡ rule-at xs (x .rule) .head) where
@@ -83,15 +83,15 @@ module _ {W : Type 0} {m : Ops W} (laws : Laws m) (xs : List Slot) (rest : ℕ �
       -- the head is the target
       pub turn-found : wanted target head ≡ true
           → (Ok (counts (closed + 1) (taken + 1)) ≡ run-answer target end)
-          × Shows m end (set weights head (x .weight)) (set reasons head (x .rule)) (set order closed head) (closed-count end) (taken-count end)
+          × Shows m xs end (set weights head (x .weight)) (set reasons head (x .rule)) (set order closed (x .rule)) (closed-count end) (taken-count end)
       turn-found w =
           let f = found-shows laws xs rest target weights reasons order missing queue count closed taken lengths within now queue′ x out same-reasons same-order few free-head
               (ap (wanted target) (sym is-head) ∙ w) in
           let answer : ℕ → ℕ → Result Counts Refusal = λ k l. Ok (counts k l) in
           let same = ap (λ (k : ℕ). answer k (taken + 1)) (f .shows .closed-is) ∙ ap (answer (closed-count end)) (f .shows .taken-is) in
           (same ∙ sym (cond-true (reached target end) (Ok (counts (closed-count end) (taken-count end))) (Err (OutOfReach (closed-count end) (taken-count end))) (f .reached-target)),
-           subst (λ (k : ℕ). Shows m end (set weights k (x .weight)) (set reasons k (x .rule)) (set order closed k) (closed-count end) (taken-count end)) (sym is-head)
-           (told m end target _ _ _ _ _ (f .shows)))
+           subst (λ (k : ℕ). Shows m xs end (set weights k (x .weight)) (set reasons k (x .rule)) (set order closed (x .rule)) (closed-count end) (taken-count end)) (sym is-head)
+           (told m xs end target _ _ _ _ _ (f .shows)))
 
       -- the rules that name the head are visited
       pub turn-open : (k : ℕ) → uses xs head k (4 * length xs) ≤ getD missing k 0
@@ -104,7 +104,7 @@ module _ {W : Type 0} {m : Ops W} (laws : Laws m) (xs : List Slot) (rest : ℕ �
           → ((k : ℕ) → getD missing′ k 0 + uses xs z k (4 * length xs) ≡ getD missing k 0)
           → count′ + unready missing′ ≡ (count - 1) + unready missing
           → ((gone : List ℕ) → Ready m rest xs (set weights z (x .weight)) gone missing queue′ (count - 1) → Ready m rest xs (set weights z (x .weight)) gone missing′ queue″ count′)
-          → Loop m xs rest target (set weights z (x .weight)) (set reasons z (x .rule)) (set order closed z) missing′ queue″ count′ (closed + 1) (taken + 1)
+          → Loop m xs rest target (set weights z (x .weight)) (set reasons z (x .rule)) (set order closed (x .rule)) missing′ queue″ count′ (closed + 1) (taken + 1)
 
       pub turn-walked : (missing′ : List ℕ) (queue″ : List (Entry W)) (count′ : ℕ) → Walked missing′ queue″ count′ head
       turn-walked missing′ queue″ count′ = subst (λ (z : ℕ). Walked missing′ queue″ count′ z) (sym is-head)

@@ -2,10 +2,10 @@
 use mathlib.Core.Bool.{Bool, true, false, cond, not}
 use mathlib.Core.List.{List, [], _∷_, map, reverse}
 use mathlib.Core.Path.{_≡_}
-use Prim.Native.Nat.{ℕ, _+_}
+use Prim.Native.Nat.{ℕ, _+_, _<_}
 use lib.Dec.{eqb}
 use lib.ListN.{length, getD, take}
-use Rattle.std.specs.shelf.Lists.{countBy}
+use Rattle.std.specs.shelf.Lists.{All, countBy}
 use Rattle.std.specs.declared.option.Option.{Option}
 use Rattle.std.specs.declared.option.Option.the-variants.{Some, None}
 use Rattle.std.specs.declared.result.Result.{Result}
@@ -34,11 +34,13 @@ unclosed cs (x ∷ xs) = cond (is-closed cs x) 0 1 + unclosed cs xs
 abbrev pub open-places : {W : Type 0} → List (Closed W) → Rule → ℕ
 open-places cs r = cond (r .struck) 0 (unclosed cs (body-of r))
 
--- The columns show the closed facts: their weights, their rules, and the facts in closing order.
-pub record Shows {W : Type 0} (m : Ops W) (s : State W) (weights : List W) (reasons order : List ℕ) (closed taken : ℕ) : Type 0 where
+-- The columns show the closed facts: their weights, their rules, and the rules in closing order.
+pub record Shows {W : Type 0} (m : Ops W) (xs : List Slot) (s : State W) (weights : List W) (reasons order : List ℕ) (closed taken : ℕ) : Type 0 where
   pub weights-at : (f : ℕ) → getD weights f (m .heaviest) ≡ weight-in m (s .closed) f
   pub reasons-at : (f : ℕ) → getD reasons f no-reason ≡ reason-in (s .closed) f
-  pub order-is : take closed order ≡ reverse (map (λ c. c .fact) (s .closed))
+  pub order-is : take closed order ≡ reverse (map (λ c. c .rule) (s .closed))
+  -- each closed fact is the head of its rule, which stands
+  pub named : All (λ c. (c .rule < length xs) × (rule-at xs (c .rule) .struck ≡ false) × (rule-at xs (c .rule) .head ≡ c .fact)) (s .closed)
   pub closed-is : closed ≡ length (s .closed)
   pub taken-is : taken ≡ length (s .taken)
 

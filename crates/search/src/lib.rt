@@ -1,2 +1,3 @@
 // The search for a lightest derivation.
+pub mod line;
 pub mod run;

@@ -64,12 +64,12 @@ pub fn run<W: Measure, G: Guide<W>>(
     requires few { ⌜ (length (now slots) ≤ 16000) × (length (now weights) ≤ 4096) × (4 * length (now slots) ≤ length (now next)) × (length (now slots) ≤ length (now queue)) ⌝ }
     requires within { ⌜ passes (length (now weights)) (now slots) ≡ true ⌝ }
     requires chained { ⌜ Chained (now slots) (now heads) (now next) (4 * length (now slots)) ⌝ }
-    requires shown { ⌜ Shows (W·Measure .ops) start (now weights) (now reasons) (now order) 0 0 ⌝ }
+    requires shown { ⌜ Shows (W·Measure .ops) (now slots) start (now weights) (now reasons) (now order) 0 0 ⌝ }
     requires running { ⌜ Running (now slots) (start {W = W}) (now reasons) (now missing) 0 ⌝ }
     requires ready { ⌜ Ready (W·Measure .ops) (G·Guide .rest (now guide)) (now slots) (now weights) [] (now missing) (now queue) first ⌝ }
     requires room { ⌜ first + unready (now missing) ≤ length (now slots) ⌝ }
     ensures answered { λ r. ⌜ r ≡ run-answer target (outcome (W·Measure .ops) (now (slots .entry)) (G·Guide .rest (now (guide .entry))) target) ⌝ }
-    ensures shows { λ _. ⌜ Shows (W·Measure .ops) (outcome (W·Measure .ops) (now (slots .entry)) (G·Guide .rest (now (guide .entry))) target) (now (weights .exit)) (now (reasons .exit)) (now (order .exit)) (closed-count (outcome (W·Measure .ops) (now (slots .entry)) (G·Guide .rest (now (guide .entry))) target)) (taken-count (outcome (W·Measure .ops) (now (slots .entry)) (G·Guide .rest (now (guide .entry))) target)) ⌝ }
+    ensures shows { λ _. ⌜ Shows (W·Measure .ops) (now (slots .entry)) (outcome (W·Measure .ops) (now (slots .entry)) (G·Guide .rest (now (guide .entry))) target) (now (weights .exit)) (now (reasons .exit)) (now (order .exit)) (closed-count (outcome (W·Measure .ops) (now (slots .entry)) (G·Guide .rest (now (guide .entry))) target)) (taken-count (outcome (W·Measure .ops) (now (slots .entry)) (G·Guide .rest (now (guide .entry))) target)) ⌝ }
 {
     let mut count = first;
     let mut closed: u16 = 0;
@@ -86,7 +86,7 @@ pub fn run<W: Measure, G: Guide<W>>(
         }
         store(weights, head as usize, entry.weight);
         reasons[head as usize] = entry.rule;
-        order[closed as usize] = head;
+        order[closed as usize] = entry.rule;
         closed += 1;
         if is_target(target, head) {
             return Ok(Counts { closed, taken });
