@@ -1,6 +1,12 @@
-pub mod Least
-pub mod Opening
-pub mod Matching
-pub mod Steps
-pub mod Turns
-pub mod Unwinding
+mod Joining
+mod Chains
+mod Filling
+mod Waiting
+mod Walking
+mod Seeding
+mod Least
+mod Opening
+mod Matching
+mod Steps
+mod Turns
+mod Unwinding

@@ -24,9 +24,9 @@ use Rattle.derivation.specs.Rules as theory
 use Rattle.derivation.specs.Joins.{joined}
 use Rattle.derivation.specs.Search.{Closed, State, is-closed, all-closed, weight-in, among, queued, entry}
 use Rattle.guide.specs.Weighted.{weigh, weighted}
-use Rattle.places.specs.Entries.{held, rule-weight, rule-entry}
-use Rattle.places.specs.Waiting.{waiting, Filled, entry-at, Ready}
-use Rattle.places.proofs.Filling.{bit}
+use Rattle.search.specs.Entries.{held, rule-weight, rule-entry}
+use Rattle.search.specs.Waiting.{waiting, Filled, entry-at, Ready}
+use Rattle.search.proofs.Filling.{bit}
 use Rattle.search.specs.Shown.{unclosed, open-places}
 use Rattle.search.proofs.Opening.{none-unclosed}
 

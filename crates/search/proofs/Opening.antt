@@ -16,9 +16,9 @@ use Rattle.sheet.specs.declared.slot.Slot.the-variants.{Empty}
 use Rattle.sheet.specs.Rules.{body-of}
 use Rattle.sheet.specs.Slots.{rule-at, rule-in}
 use Rattle.derivation.specs.Search.{Closed, is-closed, all-closed}
-use Rattle.places.specs.Chains.{names, holds, uses}
-use Rattle.places.proofs.Chains.{at-place, rule-of-place, body-bound, names-struck}
-use Rattle.places.proofs.Filling.{bit}
+use Rattle.search.specs.Chains.{names, holds, uses}
+use Rattle.search.proofs.Chains.{at-place, rule-of-place, body-bound, names-struck}
+use Rattle.search.proofs.Filling.{bit}
 use Rattle.search.specs.Shown.{occurs, unclosed, open-places}
 
 eqb-sym : (a b : ℕ) → eqb a b ≡ eqb b a

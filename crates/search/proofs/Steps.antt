@@ -23,10 +23,10 @@ use Rattle.sheet.specs.Slots.{rule-at, passes}
 use Rattle.sheet.proofs.Within.{passes-at, within-parts}
 use Rattle.derivation.specs.Search.{Closed, State, start, is-closed, weight-in, reason-in, no-reason, among, queued, entry, take-entry, reached, step, run, final, closed-count, taken-count}
 use Rattle.guide.specs.Weighted.{weighted}
-use Rattle.places.specs.Chains.{uses}
-use Rattle.places.specs.Waiting.{unready, waiting, Filled, entry-at, Ready}
-use Rattle.places.proofs.Filling.{bit, Taken, filled-take}
-use Rattle.places.proofs.Waiting.{Waits, waiting-parts, waiting-not}
+use Rattle.search.specs.Chains.{uses}
+use Rattle.search.specs.Waiting.{unready, waiting, Filled, entry-at, Ready}
+use Rattle.search.proofs.Filling.{bit, Taken, filled-take}
+use Rattle.search.proofs.Waiting.{Waits, waiting-parts, waiting-not}
 use Rattle.search.specs.Shown.{open-places, Shows, Running, wanted, outcome}
 use Rattle.search.proofs.Least.{least-is, none-least, step-none, step-reached, step-some, run-ended, run-on}
 use Rattle.search.proofs.Opening.{mentions, uses-whole, open-less}

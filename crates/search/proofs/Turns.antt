@@ -23,8 +23,8 @@ use Rattle.sheet.specs.Slots.{rule-at, passes}
 use Rattle.derivation.specs.Search.{State, is-closed, no-reason, reached, closed-count, taken-count}
 use Rattle.search.specs.declared.run.Counts.{Counts}
 use Rattle.search.specs.Shown.{Shows, wanted, outcome, run-answer}
-use Rattle.places.specs.Chains.{uses}
-use Rattle.places.specs.Waiting.{unready, Ready}
+use Rattle.search.specs.Chains.{uses}
+use Rattle.search.specs.Waiting.{unready, Ready}
 use Rattle.search.proofs.Steps.{Loop, ended, head-under, dropped, order-room, Found, found-shows, chain-open, walked}
 
 abbrev counts : ℕ → ℕ → Counts

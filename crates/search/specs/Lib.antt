@@ -1,2 +1,5 @@
+pub mod Entries
+pub mod Chains
+pub mod Waiting
 pub mod Shown
 pub mod Unwound

@@ -1,3 +1,7 @@
 // The search for a lightest derivation.
-pub mod line;
-pub mod run;
+mod line;
+mod run;
+mod seed;
+mod setup;
+mod visit;
+mod weigh;

@@ -1,5 +1,5 @@
 use Prim.Native.Nat.{_+_}
-use Rattle.places.specs.Waiting.{unready}
+use Rattle.search.specs.Waiting.{unready}
 use Rattle.search.proofs.Steps.{Loop}
 use Rattle.search.proofs.run.run.Given as given
 

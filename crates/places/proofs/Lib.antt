@@ -1,6 +1,0 @@
-pub mod Joining
-pub mod Chains
-pub mod Filling
-pub mod Waiting
-pub mod Walking
-pub mod Seeding
