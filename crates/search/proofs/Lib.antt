@@ -10,3 +10,4 @@ mod Matching
 mod Steps
 mod Turns
 mod Unwinding
+mod Starting

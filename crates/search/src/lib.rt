@@ -1,4 +1,5 @@
 // The search for a lightest derivation.
+mod explore;
 mod line;
 mod run;
 mod seed;

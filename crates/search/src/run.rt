@@ -39,7 +39,7 @@ fn is_target(target: Option<u16>, fact: u16) -> bool
 }
 
 // Writes one element of a column.
-fn store<W: Copy>(column: &mut [W], i: usize, value: W)
+pub fn store<W: Copy>(column: &mut [W], i: usize, value: W)
     requires { ⌜ i < length (now column) ⌝ }
     ensures { λ _. ⌜ now (column .exit) ≡ set (now (column .entry)) i value ⌝ }
 {
