@@ -1,4 +1,3 @@
-pub mod Joining
 pub mod Chains
 pub mod Filling
 pub mod Waiting

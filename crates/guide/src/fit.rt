@@ -1,0 +1,89 @@
+// The check of fit: the target, then the rules by number.
+ghost use mathlib.Core.List.{map};
+ghost use mathlib.Core.Path.{_≡_};
+ghost use Prim.Native.Nat.{_<_};
+ghost use lib.ListN.{length};
+ghost use Rattle.derivation.specs.Fit.{all-below, floor-kept, rest-kept, rule-fits, check-fit};
+ghost use Rattle.derivation.specs.Joins.{joined};
+ghost use Rattle.guide.specs.Fit.{fit-answer, Decides};
+ghost use Rattle.guide.specs.Weighted.{weigh, weighted};
+ghost use Rattle.sheet.specs.Refusals.{answer};
+ghost use Rattle.sheet.specs.Rules.{body-of};
+ghost use Rattle.sheet.specs.declared.slot.Slot.the-variants.{Full};
+use crate::Guide;
+use measure::Measure;
+use sheet::passed::Passed;
+use sheet::refusal::Misfit;
+use sheet::refusal::Refusal;
+use sheet::rule::Rule;
+
+// A weight joined with the floors of some facts.
+fn with_floors<W: Measure, G: Guide<W>>(weight: W, facts: &[u16], guide: &G) -> W
+    requires { ⌜ W·Measure .ops .norm weight ≡ weight ⌝ }
+    ensures { λ r. ⌜ r ≡ W·Measure .ops .join weight (joined (W·Measure .ops) (map (G·Guide .floor (now (guide .entry))) (now (facts .entry)))) ⌝ }
+{
+    let mut sum = weight;
+    for fact in facts {
+        sum = sum.join(guide.floor(*fact));
+    }
+    sum
+}
+
+// Whether the floor of the head is no heavier than the effort joined with the floors of the body.
+fn floor_kept<W: Measure, G: Guide<W>>(rule: &Rule, guide: &G) -> bool
+    ensures { λ r. ⌜ r ≡ floor-kept (W·Measure .ops) (G·Guide .floor (now (guide .entry))) (weigh (W·Measure .ops) (Full (now (rule .entry)))) ⌝ }
+{
+    let made = with_floors(W::effort(rule.cost), rule.body(), guide);
+    guide.floor(rule.head).no_heavier(made)
+}
+
+// Whether the rest of the fact at a place is no heavier than the effort joined with the floors at the other places and the rest of the head.
+fn rest_kept<W: Measure, G: Guide<W>>(rule: &Rule, place: usize, guide: &G) -> bool
+    requires { ⌜ place < length (body-of (now rule)) ⌝ }
+    ensures { λ r. ⌜ r ≡ rest-kept (W·Measure .ops) (G·Guide .floor (now (guide .entry))) (G·Guide .rest (now (guide .entry))) (weigh (W·Measure .ops) (Full (now (rule .entry)))) place ⌝ }
+{
+    let body = rule.body();
+    let before = with_floors(W::effort(rule.cost), &body[0..place], guide);
+    let beside = with_floors(before, &body[place + 1..], guide);
+    let around = beside.join(guide.rest(rule.head));
+    guide.rest(body[place]).no_heavier(around)
+}
+
+// Whether that holds at each place of the body.
+fn rests_kept<W: Measure, G: Guide<W>>(rule: &Rule, guide: &G) -> bool
+    ensures { λ r. ⌜ r ≡ all-below (length (body-of (now (rule .entry)))) (rest-kept (W·Measure .ops) (G·Guide .floor (now (guide .entry))) (G·Guide .rest (now (guide .entry))) (weigh (W·Measure .ops) (Full (now (rule .entry))))) ⌝ }
+{
+    for place in 0..rule.body().len() {
+        if !rest_kept(rule, place, guide) {
+            return false;
+        }
+    }
+    true
+}
+
+// Whether a rule is struck or keeps both conditions.
+fn rule_fits<W: Measure, G: Guide<W>>(rule: &Rule, guide: &G) -> bool
+    ensures { λ r. ⌜ r ≡ rule-fits (W·Measure .ops) (G·Guide .floor (now (guide .entry))) (G·Guide .rest (now (guide .entry))) (weigh (W·Measure .ops) (Full (now (rule .entry)))) ⌝ }
+{
+    rule.struck || (floor_kept(rule, guide) && rests_kept(rule, guide))
+}
+
+// Accepts a guide that fits the rules and the target; else tells the target, or the first rule that breaks a condition.
+pub fn check_fit<W: Measure, G: Guide<W>>(
+    sheet: &Passed,
+    target: u16,
+    guide: &G,
+) -> Result<(), Refusal>
+    ensures answered { λ r. ⌜ answer r ≡ fit-answer (check-fit (W·Measure .ops) (G·Guide .floor (now (guide .entry))) (G·Guide .rest (now (guide .entry))) (weighted (W·Measure .ops) (now (now (sheet .entry) .slots))) target) target ⌝ }
+    ensures decides { λ r. ⌜ Decides (W·Measure .ops) (G·Guide .floor (now (guide .entry))) (G·Guide .rest (now (guide .entry))) (weighted (W·Measure .ops) (now (now (sheet .entry) .slots))) target (answer r) ⌝ }
+{
+    if !guide.rest(target).no_heavier(W::nothing()) {
+        return Err(Refusal::Unfit(Misfit::Target(target)));
+    }
+    for (number, slot) in sheet.slots().iter().enumerate() {
+        if !rule_fits(&slot.rule(), guide) {
+            return Err(Refusal::Unfit(Misfit::Rule(number as u16)));
+        }
+    }
+    Ok(())
+}
