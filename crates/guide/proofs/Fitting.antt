@@ -29,6 +29,10 @@ use Rattle.guide.proofs.Joining.{map-without, joined-without}
 pub all-more : (i : ℕ) (p : ℕ → Bool) → all-below i p ≡ true → p i ≡ true → all-below (i + 1) p ≡ true
 all-more i p h e = rw add-one (and-from (all-below i p) (p i) h e)
 
+pub and-true : (b : Bool) → (b && true) ≡ b
+and-true true = refl
+and-true false = refl
+
 pub all-fails : (n i : ℕ) (p : ℕ → Bool) → i < n → p i ≡ false → all-below n p ≡ false
 all-fails zero i p l e = absurd (omega arith)
 all-fails (suc n) i p l e =
@@ -37,23 +41,30 @@ all-fails (suc n) i p l e =
       | inr s ↦ and-left (all-below n p) (p n) (all-fails n i p (omega arith) e)
     ]
 
--- what the floors before and after a place give
-pub beside-is : {W : Type 0} {m : Ops W} → Laws m → (floor : ℕ → W) (r : Record) (i : ℕ)
-    → m .join (m .join (m .effort (r .cost)) (joined m (map floor (take i (body-of r))))) (joined m (map floor (drop (i + 1) (body-of r))))
-    ≡ beside m floor (weigh m (Full r)) i
-beside-is {m = m} laws floor r i =
-    let fs = map floor (body-of r) in
-    let parts : m .join (m .join (m .effort (r .cost)) (joined m (take i fs))) (joined m (drop (i + 1) fs)) ≡ m .join (m .effort (r .cost)) (joined m (map floor (without (body-of r) i))) =
-    joined-without laws (m .effort (r .cost)) fs i ∙ ap (λ l. m .join (m .effort (r .cost)) (joined m l)) (map-without floor (body-of r) i) in
-    simp (take-map, drop-map) at parts
-    ∙ ap (λ w. m .join w (joined m (map floor (without (body-of r) i)))) (laws .effort-limit (r .cost))
+module _ {W : Type 0} {m : Ops W} (laws : Laws m) (floor : ℕ → W) (r : Record) where
+  abbrev joining : List ℕ → W
+  joining facts = m .join (m .effort (r .cost)) (joined m (map floor facts))
+
+  -- the effort of the cost is that of the limit, where it is above the limit
+  joining-is : (facts : List ℕ) → joining facts ≡ m .join (weigh m (Full r) .effort) (joined m (map floor facts))
+  joining-is facts = ap (λ w. m .join w (joined m (map floor facts))) (laws .effort-limit (r .cost))
+
+  pub whole-is : joining (body-of r) ≡ m .join (weigh m (Full r) .effort) (joined m (map floor (body-of r)))
+  whole-is = joining-is (body-of r)
+
+  -- what the floors before and after a place give
+  pub beside-is : (i : ℕ) → m .join (joining (take i (body-of r))) (joined m (map floor (drop (i + 1) (body-of r)))) ≡ beside m floor (weigh m (Full r)) i
+  beside-is i =
+      let fs = map floor (body-of r) in
+      let parts : m .join (m .join (m .effort (r .cost)) (joined m (take i fs))) (joined m (drop (i + 1) fs)) ≡ joining (without (body-of r) i) =
+      joined-without laws (m .effort (r .cost)) fs i ∙ ap (λ l. m .join (m .effort (r .cost)) (joined m l)) (map-without floor (body-of r) i) in
+      simp (take-map, drop-map) at parts ∙ joining-is (without (body-of r) i)
 
 module _ {W : Type 0} (m : Ops W) (floor rest : ℕ → W) where
-  -- a standing rule, by its two conditions
-  pub standing-fits : (a : Rule W) (x y : Bool) → a .struck ≡ false → x ≡ floor-kept m floor a → y ≡ all-below (length (a .body)) (rest-kept m floor rest a)
-      → rule-fits m floor rest a ≡ (x && y)
+  pub standing-fits : (a : Rule W) → a .struck ≡ false
+      → rule-fits m floor rest a ≡ (floor-kept m floor a && all-below (length (a .body)) (rest-kept m floor rest a))
   unfolding rule-fits
-  standing-fits a x y s p q = ap (λ b. b || (floor-kept m floor a && all-below (length (a .body)) (rest-kept m floor rest a))) s ∙ sym (ap (λ b. b && y) p ∙ ap (λ b. floor-kept m floor a && b) q)
+  standing-fits a s = ap (λ b. b || (floor-kept m floor a && all-below (length (a .body)) (rest-kept m floor rest a))) s
 
   pub struck-fits : (a : Rule W) → a .struck ≡ true → rule-fits m floor rest a ≡ true
   unfolding rule-fits

@@ -1,7 +1,7 @@
 // The check of fit: the target, then the rules by number.
+ghost use mathlib.Core.Bool.{_&&_};
 ghost use mathlib.Core.List.{map};
 ghost use mathlib.Core.Path.{_≡_};
-ghost use Prim.Native.Nat.{_<_};
 ghost use lib.ListN.{length};
 ghost use Rattle.derivation.specs.Fit.{all-below, floor-kept, rest-kept, rule-fits, check-fit};
 ghost use Rattle.derivation.specs.Joins.{joined};
@@ -29,43 +29,29 @@ fn with_floors<W: Measure, G: Guide<W>>(weight: W, facts: &[u16], guide: &G) -> 
     sum
 }
 
-// Whether the floor of the head is no heavier than the effort joined with the floors of the body.
-fn floor_kept<W: Measure, G: Guide<W>>(rule: &Rule, guide: &G) -> bool
-    ensures { λ r. ⌜ r ≡ floor-kept (W·Measure .ops) (G·Guide .floor (now (guide .entry))) (weigh (W·Measure .ops) (Full (now (rule .entry)))) ⌝ }
-{
-    let made = with_floors(W::effort(rule.cost), rule.body(), guide);
-    guide.floor(rule.head).no_heavier(made)
-}
-
-// Whether the rest of the fact at a place is no heavier than the effort joined with the floors at the other places and the rest of the head.
-fn rest_kept<W: Measure, G: Guide<W>>(rule: &Rule, place: usize, guide: &G) -> bool
-    requires { ⌜ place < length (body-of (now rule)) ⌝ }
-    ensures { λ r. ⌜ r ≡ rest-kept (W·Measure .ops) (G·Guide .floor (now (guide .entry))) (G·Guide .rest (now (guide .entry))) (weigh (W·Measure .ops) (Full (now (rule .entry)))) place ⌝ }
+// Whether a rule keeps both conditions. At each place the rest of its fact is no heavier than the effort joined with the floors
+// at the other places and the rest of the head. The floor of the head is no heavier than the effort joined with the floors of the body.
+fn keeps<W: Measure, G: Guide<W>>(rule: &Rule, guide: &G) -> bool
+    ensures { λ r. ⌜ r ≡ (floor-kept (W·Measure .ops) (G·Guide .floor (now (guide .entry))) (weigh (W·Measure .ops) (Full (now (rule .entry)))) && all-below (length (body-of (now (rule .entry)))) (rest-kept (W·Measure .ops) (G·Guide .floor (now (guide .entry))) (G·Guide .rest (now (guide .entry))) (weigh (W·Measure .ops) (Full (now (rule .entry)))))) ⌝ }
 {
     let body = rule.body();
-    let before = with_floors(W::effort(rule.cost), &body[0..place], guide);
-    let beside = with_floors(before, &body[place + 1..], guide);
-    let around = beside.join(guide.rest(rule.head));
-    guide.rest(body[place]).no_heavier(around)
-}
-
-// Whether that holds at each place of the body.
-fn rests_kept<W: Measure, G: Guide<W>>(rule: &Rule, guide: &G) -> bool
-    ensures { λ r. ⌜ r ≡ all-below (length (body-of (now (rule .entry)))) (rest-kept (W·Measure .ops) (G·Guide .floor (now (guide .entry))) (G·Guide .rest (now (guide .entry))) (weigh (W·Measure .ops) (Full (now (rule .entry))))) ⌝ }
-{
-    for place in 0..rule.body().len() {
-        if !rest_kept(rule, place, guide) {
+    let head = guide.rest(rule.head);
+    let mut before = W::effort(rule.cost);
+    for (place, fact) in body.iter().enumerate() {
+        let beside = with_floors(before, &body[place + 1..], guide);
+        if !guide.rest(*fact).no_heavier(beside.join(head)) {
             return false;
         }
+        before = before.join(guide.floor(*fact));
     }
-    true
+    guide.floor(rule.head).no_heavier(before)
 }
 
 // Whether a rule is struck or keeps both conditions.
 fn rule_fits<W: Measure, G: Guide<W>>(rule: &Rule, guide: &G) -> bool
     ensures { λ r. ⌜ r ≡ rule-fits (W·Measure .ops) (G·Guide .floor (now (guide .entry))) (G·Guide .rest (now (guide .entry))) (weigh (W·Measure .ops) (Full (now (rule .entry)))) ⌝ }
 {
-    rule.struck || (floor_kept(rule, guide) && rests_kept(rule, guide))
+    rule.struck || keeps(rule, guide)
 }
 
 // Accepts a guide that fits the rules and the target; else tells the target, or the first rule that breaks a condition.
