@@ -1,5 +1,6 @@
 // Guides: for each fact a floor and a rest, which may shorten a search.
 pub mod blank;
+pub mod fit;
 pub mod heavier;
 
 ghost use mathlib.Core.Path.{_≡_};

@@ -1,4 +1,3 @@
-mod Joining
 mod Chains
 mod Filling
 mod Waiting

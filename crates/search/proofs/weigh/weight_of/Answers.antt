@@ -1,15 +1,23 @@
 use mathlib.Core.Path.{_≡_, refl, sym, ap, _∙_}
-use mathlib.Core.List.{map}
+use mathlib.Core.List.{List, map}
 use Prim.Native.Nat.{_<_}
 use native.Mathlib.Omega.{arith}
 use lib.ListN.{length, getD, take}
 use Rattle.std.proofs.shelf.Lists.{take-all, getD-read}
+use Rattle.measure.specs.Ops.{Ops, Laws}
+use Rattle.sheet.specs.declared.rule.Rule.{Rule}
+use Rattle.sheet.specs.Rules.{body-of}
 use Rattle.sheet.proofs.Within.{below-at}
 use Rattle.derivation.specs.Joins.{joined}
-use Rattle.search.specs.Entries.{held}
-use Rattle.search.proofs.Joining.{effort-alone, joined-more, whole-body}
+use Rattle.guide.proofs.Joining.{effort-alone, joined-more}
+use Rattle.search.specs.Entries.{held, rule-weight}
 use Rattle.search.proofs.weigh.weight_of.Given as given
 use Rattle.search.proofs.weigh.weight_of.Needs as need
+
+whole-body : {W : Type 0} {m : Ops W} → Laws m → (r : Rule) (ws : List W)
+    → m .join (m .effort (r .cost)) (joined m (map (held m ws) (body-of r))) ≡ rule-weight m r ws
+unfolding rule-weight
+whole-body {m = m} laws r ws = ap (λ e. m .join e (joined m (map (held m ws) (body-of r)))) (laws .effort-limit (r .cost))
 
 pub loop-fact-holds : need.loop-fact-holds
 loop-fact-holds g c = c .effort-weight .ensures ∙ effort-alone (g .W·Measure·met .lawful) (c .args .rule .now .cost)
