@@ -10,3 +10,4 @@ mod Steps
 mod Turns
 mod Unwinding
 mod Starting
+mod Answering

@@ -3,3 +3,4 @@ pub mod Chains
 pub mod Waiting
 pub mod Shown
 pub mod Unwound
+pub mod Answered

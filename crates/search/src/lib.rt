@@ -1,8 +1,10 @@
 // The search for a lightest derivation.
+pub mod columns;
 mod explore;
 mod line;
 mod run;
 mod seed;
 mod setup;
+mod solve;
 mod visit;
 mod weigh;
