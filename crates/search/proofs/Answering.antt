@@ -106,11 +106,11 @@ module _ {W : Type 0} (m : Ops W) (xs : List Slot) (s : State W) (weights : List
       → accepted r ≡ told-found (line m (weighted m xs) s target) s (found-weight m target s)
   found-told r e =
       let same : r ≡ found-at (weight-in m (s .closed) target) (closed-count s) (taken-count s) (line m (weighted m xs) s target) =
-          e
-          ∙ ap (λ w. found-at w (k .closed) (k .taken) (drawn-line xs (take (k .closed) order) target)) (shown .weights-at target)
-          ∙ ap (λ (n : ℕ). found-at (weight-in m (s .closed) target) n (k .taken) (drawn-line xs (take (k .closed) order) target)) (reached .closed-is)
-          ∙ ap (λ (n : ℕ). found-at (weight-in m (s .closed) target) (closed-count s) n (drawn-line xs (take (k .closed) order) target)) (reached .taken-is)
-          ∙ ap (found-at (weight-in m (s .closed) target) (closed-count s) (taken-count s)) drawn-is in
+      e
+      ∙ ap (λ w. found-at w (k .closed) (k .taken) (drawn-line xs (take (k .closed) order) target)) (shown .weights-at target)
+      ∙ ap (λ (n : ℕ). found-at (weight-in m (s .closed) target) n (k .taken) (drawn-line xs (take (k .closed) order) target)) (reached .closed-is)
+      ∙ ap (λ (n : ℕ). found-at (weight-in m (s .closed) target) (closed-count s) n (drawn-line xs (take (k .closed) order) target)) (reached .taken-is)
+      ∙ ap (found-at (weight-in m (s .closed) target) (closed-count s) (taken-count s)) drawn-is in
       ap accepted same ∙ sym (ap (told-found (line m (weighted m xs) s target) s) (reached .found))
 
   pub line-drawn : (l l₀ : List ℕ) → l ≡ drawn-line xs (take (k .closed) order) target ++ drop (length (drawn-line xs (take (k .closed) order) target)) l₀

@@ -25,9 +25,9 @@ module _ {W : Type 0} {m : Ops W} (laws : Laws m) (rules : List (Rule W)) (rest 
   behind e k q f =
       elim (cases-bool (entry-leb m e x)) [
         | inl h ↦ (
-          let b : entry-leb m x e ≡ true = rw (f .is) (best (e .rule) (f .waits)) in
-          let c = ap (λ (z : Entry W). z .rule) (entry-apart laws .antisym e x h b) in
-          absurd (omega (arith, f .under, c, q)))
+            let b : entry-leb m x e ≡ true = rw (f .is) (best (e .rule) (f .waits)) in
+            let c = ap (λ (z : Entry W). z .rule) (entry-apart laws .antisym e x h b) in
+            absurd (omega (arith, f .under, c, q)))
         | inr h ↦ h
       ]
 
@@ -45,9 +45,9 @@ module _ {W : Type 0} {m : Ops W} (laws : Laws m) (rules : List (Rule W)) (rest 
   least-is (suc n) h =
       elim (cases-eq (x .rule) n) [
         | inl e ↦ (
-          let q : queued m rules s n ≡ true = ap (queued m rules s) (sym e) ∙ waits in
-          let i : entry m rules rest (s .closed) n ≡ x = ap (entry m rules rest (s .closed)) (sym e) ∙ sym is in
-          rw (q, i) (here n e (least m rules rest s n) (sought laws rules rest s n)))
+            let q : queued m rules s n ≡ true = ap (queued m rules s) (sym e) ∙ waits in
+            let i : entry m rules rest (s .closed) n ≡ x = ap (entry m rules rest (s .closed)) (sym e) ∙ sym is in
+            rw (q, i) (here n e (least m rules rest s n) (sought laws rules rest s n)))
         | inr e ↦ rw (least-is n (omega arith)) (beyond (queued m rules s n) n refl)
       ]
 

@@ -11,3 +11,4 @@ mod Turns
 mod Unwinding
 mod Starting
 mod Answering
+mod Refusing

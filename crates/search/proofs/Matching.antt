@@ -75,8 +75,8 @@ module _ {W : Type 0} (m : Ops W) where
       (elim (cases-lt r (length missing)) [
         | inl h ↦ rw (lt-ltb r (length missing) h) (one (rule-at xs r .struck))
         | inr h ↦ (
-          let e : rule-at xs r .struck ≡ true = ap (λ z. rule-in z .struck) (getD-past xs r Empty (omega (arith, l))) in
-          rw (e, le-ltb r (length missing) h))
+            let e : rule-at xs r .struck ≡ true = ap (λ z. rule-in z .struck) (getD-past xs r Empty (omega (arith, l))) in
+            rw (e, le-ltb r (length missing) h))
       ])
     where
       one : (b : Bool) → (not b && (all-closed (s .closed) (body-of (rule-at xs r)) && not (among (s .taken) r)))
@@ -100,10 +100,10 @@ module _ {W : Type 0} (m : Ops W) where
   held-same ws h w cs o (x ∷ xs) z =
       elim (cases-bool (is-closed cs x)) [
         | inl c ↦ (
-          let u : unclosed cs xs ≡ 0 = let y = rw c at z in omega (arith, y) in
-          let a = getD-set-other ws h x w (m .heaviest) (λ e. both-ways _ o (ap (is-closed cs) (sym e) ∙ c)) in
-          let b = held-same ws h w cs o xs u in
-          cc)
+            let u : unclosed cs xs ≡ 0 = let y = rw c at z in omega (arith, y) in
+            let a = getD-set-other ws h x w (m .heaviest) (λ e. both-ways _ o (ap (is-closed cs) (sym e) ∙ c)) in
+            let b = held-same ws h w cs o xs u in
+            cc)
         | inr c ↦ absurd (let y = rw c at z in omega (arith, y))
       ]
 
@@ -133,6 +133,7 @@ filled-swap {W} m of of′ flag queue count same f = record {
     flagged : (b : Bool) → 1 ≤ bit b → b ≡ true
     flagged true h = refl
     flagged false h = absurd (omega arith)
+
     each : (i : ℕ) → i < length (take count queue) → getD (take count queue) i (of 0) ≡ of′ (getD (take count queue) i (of 0) .rule)
     each i h =
         let e = getD (take count queue) i (of 0) in

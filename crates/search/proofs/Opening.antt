@@ -71,7 +71,7 @@ named a f = bit (names a 0 f) + bit (names a 1 f) + bit (names a 2 f) + bit (nam
 
 named-body : (stands : Bool) (body : List ℕ) (f : ℕ) → length body ≤ 4
     → bit (stands && (ltb 0 (length body) && eqb (getD body 0 0) f)) + bit (stands && (ltb 1 (length body) && eqb (getD body 1 0) f)) + bit (stands && (ltb 2 (length body) && eqb (getD body 2 0) f)) + bit (stands && (ltb 3 (length body) && eqb (getD body 3 0) f))
-      ≡ cond (not stands) 0 (occurs f body)
+    ≡ cond (not stands) 0 (occurs f body)
 named-body false body f h = refl
 named-body true [] f h = refl
 named-body true (a ∷ []) f h = omega arith

@@ -99,14 +99,14 @@ module _ {W : Type 0} {m : Ops W} (laws : Laws m) (xs : List Slot) (rest : ℕ �
   pub ended : count ≡ 0 → s ≡ outcome m xs rest target
   ended z =
       let none : (r : ℕ) → waiting xs (s .taken) missing r ≡ false = λ r.
-          elim (cases-bool (waiting xs (s .taken) missing r)) [
-            | inl h ↦ (
-              let e : bit (waiting xs (s .taken) missing r) ≡ 1 = ap bit h in
-              let c = now .ready .filled .members r in
-              let t : countBy (λ (e : Entry W). eqb (e .rule) r) (take count queue) ≡ 0 = ap (λ k. countBy (λ (e : Entry W). eqb (e .rule) r) (take k queue)) z in
-              absurd (omega (arith, e, c, t)))
-            | inr h ↦ h
-          ] in
+      elim (cases-bool (waiting xs (s .taken) missing r)) [
+        | inl h ↦ (
+            let e : bit (waiting xs (s .taken) missing r) ≡ 1 = ap bit h in
+            let c = now .ready .filled .members r in
+            let t : countBy (λ (e : Entry W). eqb (e .rule) r) (take count queue) ≡ 0 = ap (λ k. countBy (λ (e : Entry W). eqb (e .rule) r) (take k queue)) z in
+            absurd (omega (arith, e, c, t)))
+        | inr h ↦ h
+      ] in
       let l = none-least laws (weighted m xs) rest target s (λ r. queue-is r ∙ none r) (length (weighted m xs)) in
       sym (run-ended laws (weighted m xs) rest target s (step-none laws (weighted m xs) rest target s l) (suc (length xs) - taken)) ∙ now .on
 
@@ -132,12 +132,12 @@ module _ {W : Type 0} {m : Ops W} (laws : Laws m) (xs : List Slot) (rest : ℕ �
     least-entry : step m (weighted m xs) rest target s ≡ Some (take-entry m (weighted m xs) s x)
     least-entry =
         let entries : (k : ℕ) → k < length xs → entry m (weighted m xs) rest (s .closed) k ≡ entry-at m rest xs weights k =
-            λ k b. entry-is m rest xs (s .closed) weights k (length weights) within b (now .shows .weights-at) in
+        λ k b. entry-is m rest xs (s .closed) weights k (length weights) within b (now .shows .weights-at) in
         let under : (k : ℕ) → waiting xs (s .taken) missing k ≡ true → k < length xs =
-            λ k q. omega (arith, waiting-parts xs (s .taken) missing k q .under, lengths) in
+        λ k q. omega (arith, waiting-parts xs (s .taken) missing k q .under, lengths) in
         let l = least-is laws (weighted m xs) rest s x (queue-is r ∙ taken-out .flagged) (taken-out .is ∙ sym (entries r rule-under))
-            (λ k q. let w = sym (queue-is k) ∙ q in rw (entries k (under k w)) (taken-out .least k w))
-            (length (weighted m xs)) (rw (length-weighted m xs) rule-under) in
+        (λ k q. let w = sym (queue-is k) ∙ q in rw (entries k (under k w)) (taken-out .least k w))
+        (length (weighted m xs)) (rw (length-weighted m xs) rule-under) in
         step-some laws (weighted m xs) rest target s x (now .unreached) l
 
     spent : (k : ℕ) → among (r ∷ s .taken) k ≡ true → getD missing k 0 ≡ 0
@@ -254,7 +254,7 @@ module _ {W : Type 0} {m : Ops W} (laws : Laws m) (xs : List Slot) (rest : ℕ �
       ready-closed = record {
         filled = filled-swap m _ _ (waiting xs (r ∷ s .taken) missing) queue′ (count - 1)
             (λ k w. let v = waiting-parts xs (r ∷ s .taken) missing k w in
-              entry-kept m rest xs weights h (x .weight) (s .closed) k unclosed-head (v .stands) (sym (now .running .missing-at k) ∙ v .none-open))
+            entry-kept m rest xs weights h (x .weight) (s .closed) k unclosed-head (v .stands) (sym (now .running .missing-at k) ∙ v .none-open))
             (taken-out .filled);
         spent = spent;
       }

@@ -50,9 +50,10 @@ module _ {W : Type 0} {m : Ops W} (laws : Laws m) (xs : List Slot) (rest : ℕ �
       let shows = subst (λ (s : State W). Shows m xs s weights reasons order closed taken) e (now .shows) in
       let none : reached target end ≡ false = ap (reached target) (sym e) ∙ now .unreached in
       let answer : ℕ → ℕ → Result Counts Refusal = λ k l. Err (OutOfReach k l) in
-      let same = ap (λ (k : ℕ). answer k taken) (shows .closed-is) ∙ ap (answer (closed-count end)) (shows .taken-is) in
-      (same ∙ sym (cond-false (reached target end) (Ok (counts (closed-count end) (taken-count end))) (Err (OutOfReach (closed-count end) (taken-count end))) none),
-       told m xs end target weights reasons order closed taken shows)
+      let same = ap (λ (k : ℕ). answer k taken) (shows .closed-is) ∙ ap (answer (closed-count end)) (shows .taken-is) in (
+        same ∙ sym (cond-false (reached target end) (Ok (counts (closed-count end) (taken-count end))) (Err (OutOfReach (closed-count end) (taken-count end))) none),
+        told m xs end target weights reasons order closed taken shows,
+      )
 
   module _ (queue′ : List (Entry W)) (x : Entry W) (out : Removed (entry-leb m) queue count queue′ x)
       (head : ℕ) (is-head : head ≡ rule-at xs (x .rule) .head) where
@@ -67,7 +68,7 @@ module _ {W : Type 0} {m : Ops W} (laws : Laws m) (xs : List Slot) (rest : ℕ �
         let g = now .shows .reasons-at head in
         let c : is-closed (now .state .closed) head ≡ true = f ∙ not-from-false _ (ne-eqb _ no-reason (λ q. has (sym e ∙ g ∙ q))) in
         dropped laws xs rest target weights reasons order missing queue count closed taken lengths within now queue′ x out
-          (ap (is-closed (now .state .closed)) (sym is-head) ∙ c)
+        (ap (is-closed (now .state .closed)) (sym is-head) ∙ c)
 
     module _ (same-reasons : length reasons ≡ length weights) (same-order : length order ≡ length weights) (few : length xs ≤ 16000)
         (none : getD reasons head 0 ≡ no-reason) where
@@ -86,12 +87,13 @@ module _ {W : Type 0} {m : Ops W} (laws : Laws m) (xs : List Slot) (rest : ℕ �
           × Shows m xs end (set weights head (x .weight)) (set reasons head (x .rule)) (set order closed (x .rule)) (closed-count end) (taken-count end)
       turn-found w =
           let f = found-shows laws xs rest target weights reasons order missing queue count closed taken lengths within now queue′ x out same-reasons same-order few free-head
-              (ap (wanted target) (sym is-head) ∙ w) in
+          (ap (wanted target) (sym is-head) ∙ w) in
           let answer : ℕ → ℕ → Result Counts Refusal = λ k l. Ok (counts k l) in
-          let same = ap (λ (k : ℕ). answer k (taken + 1)) (f .shows .closed-is) ∙ ap (answer (closed-count end)) (f .shows .taken-is) in
-          (same ∙ sym (cond-true (reached target end) (Ok (counts (closed-count end) (taken-count end))) (Err (OutOfReach (closed-count end) (taken-count end))) (f .reached-target)),
-           subst (λ (k : ℕ). Shows m xs end (set weights k (x .weight)) (set reasons k (x .rule)) (set order closed (x .rule)) (closed-count end) (taken-count end)) (sym is-head)
-           (told m xs end target _ _ _ _ _ (f .shows)))
+          let same = ap (λ (k : ℕ). answer k (taken + 1)) (f .shows .closed-is) ∙ ap (answer (closed-count end)) (f .shows .taken-is) in (
+            same ∙ sym (cond-true (reached target end) (Ok (counts (closed-count end) (taken-count end))) (Err (OutOfReach (closed-count end) (taken-count end))) (f .reached-target)),
+            subst (λ (k : ℕ). Shows m xs end (set weights k (x .weight)) (set reasons k (x .rule)) (set order closed (x .rule)) (closed-count end) (taken-count end)) (sym is-head)
+                (told m xs end target _ _ _ _ _ (f .shows)),
+          )
 
       -- the rules that name the head are visited
       pub turn-open : (k : ℕ) → uses xs head k (4 * length xs) ≤ getD missing k 0

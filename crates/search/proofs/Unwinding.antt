@@ -34,14 +34,14 @@ pub marks-more : (body needed needed₀ : List ℕ) (i : ℕ) → i < length bod
 marks-more body needed needed₀ i h l old f =
     let x = getD body i 0 in
     let a : among (take (i + 1) body) f ≡ (among (take i body) f || eqb x f) =
-        ap (λ z. among z f) (take-more body i 0 h) ∙ among-append (take i body) (x ∷ []) f ∙ ap (λ z. among (take i body) f || z) (or-false (eqb x f)) in
+    ap (λ z. among z f) (take-more body i 0 h) ∙ among-append (take i body) (x ∷ []) f ∙ ap (λ z. among (take i body) f || z) (or-false (eqb x f)) in
     elim (cases-eq f x) [
       | inl e ↦ (
-        let y : among (take (i + 1) body) f ≡ true = a ∙ ap (λ z. among (take i body) f || z) (eq-eqb x f (sym e)) ∙ last (among (take i body) f) in
-        rw (y, e) (getD-set-same needed x 1 0 l))
+          let y : among (take (i + 1) body) f ≡ true = a ∙ ap (λ z. among (take i body) f || z) (eq-eqb x f (sym e)) ∙ last (among (take i body) f) in
+          rw (y, e) (getD-set-same needed x 1 0 l))
       | inr e ↦ (
-        let y : among (take (i + 1) body) f ≡ among (take i body) f = a ∙ ap (λ z. among (take i body) f || z) (ne-eqb x f (λ q. e (sym q))) ∙ or-false (among (take i body) f) in
-        rw y (getD-set-other needed x f 1 0 e ∙ old f))
+          let y : among (take (i + 1) body) f ≡ among (take i body) f = a ∙ ap (λ z. among (take i body) f || z) (ne-eqb x f (λ q. e (sym q))) ∙ or-false (among (take i body) f) in
+          rw y (getD-set-other needed x f 1 0 e ∙ old f))
     ]
   where
     last : (b : Bool) → (b || true) ≡ true
@@ -95,7 +95,7 @@ module _ (xs : List Slot) (order : List ℕ) (target : ℕ) (needed line line₀
   front : reverse (take left order) ≡ r ∷ reverse (take (left - 1) order)
   front =
       let e : take left order ≡ take (left - 1) order ++ (r ∷ []) =
-          ap (λ (k : ℕ). take k order) (let q : left ≡ left - 1 + 1 = omega arith in q) ∙ take-more order (left - 1) 0 (omega (arith, now .fewer)) in
+      ap (λ (k : ℕ). take k order) (let q : left ≡ left - 1 + 1 = omega arith in q) ∙ take-more order (left - 1) 0 (omega (arith, now .fewer)) in
       ap reverse e ∙ reverse-append (take (left - 1) order) (r ∷ [])
 
   -- the rules still to come, with the next one in front
@@ -118,7 +118,7 @@ module _ (xs : List Slot) (order : List ℕ) (target : ℕ) (needed line line₀
           let a′ : len′ ≡ len + 1 = a ∙ ap (λ z. len + cond z 1 0) e in
           let b′ : line′ ≡ set line len r = b ∙ ap (λ z. cond z (set line len r) line) e in
           let t : take len′ line′ ≡ take len line ++ (r ∷ []) =
-              ap (λ (k : ℕ). take k line′) a′ ∙ ap (take (len + 1)) b′ ∙ take-more-set line len r (omega (arith, now .fewer, long)) in
+          ap (λ (k : ℕ). take k line′) a′ ∙ ap (take (len + 1)) b′ ∙ take-more-set line len r (omega (arith, now .fewer, long)) in
           record {
             wants = body-of (rule-at xs r) ++ now .wants;
             marks = λ f k.

@@ -4,3 +4,4 @@ pub mod Waiting
 pub mod Shown
 pub mod Unwound
 pub mod Answered
+pub mod Left

@@ -52,5 +52,17 @@ pub fn explore<W: Measure, G: Guide<W>>(
     count_missing(slots, missing);
     chain(slots, heads, next);
     let first = seed(slots, missing, weights, guide, queue);
-    run(slots, target, guide, weights, reasons, order, heads, next, missing, queue, first)
+    run(
+        slots,
+        target,
+        guide,
+        weights,
+        reasons,
+        order,
+        heads,
+        next,
+        missing,
+        queue,
+        first,
+    )
 }

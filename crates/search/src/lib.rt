@@ -1,6 +1,7 @@
 // The search for a lightest derivation.
 pub mod columns;
 mod explore;
+pub mod find;
 mod line;
 mod run;
 mod seed;

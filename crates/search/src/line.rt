@@ -23,7 +23,13 @@ fn mark(body: &[u16], needed: &mut [u16])
 }
 
 // One rule back: if its head is needed it is written, and its body is needed. Answers how many rules are written.
-fn unwind_rule(slots: &[Slot], number: u16, needed: &mut [u16], line: &mut [u16], len: usize) -> usize
+fn unwind_rule(
+    slots: &[Slot],
+    number: u16,
+    needed: &mut [u16],
+    line: &mut [u16],
+    len: usize,
+) -> usize
     requires known { ⌜ (number < length (now slots)) × (len < length (now line)) ⌝ }
     requires within { ⌜ passes (length (now needed)) (now slots) ≡ true ⌝ }
     requires stands { ⌜ rule-at (now slots) number .struck ≡ false ⌝ }
@@ -61,7 +67,13 @@ fn unwind(slots: &[Slot], order: &[u16], target: u16, needed: &mut [u16], line: 
 }
 
 // Writes the line, and answers its length.
-pub fn draw(slots: &[Slot], order: &[u16], target: u16, needed: &mut [u16], line: &mut [u16]) -> usize
+pub fn draw(
+    slots: &[Slot],
+    order: &[u16],
+    target: u16,
+    needed: &mut [u16],
+    line: &mut [u16],
+) -> usize
     requires known { ⌜ (target < length (now needed)) × (length (now order) ≤ length (now line)) ⌝ }
     requires within { ⌜ passes (length (now needed)) (now slots) ≡ true ⌝ }
     requires stand { ⌜ All (λ r. (r < length (now slots)) × (rule-at (now slots) r .struck ≡ false)) (now order) ⌝ }

@@ -9,9 +9,9 @@ ghost use Rattle.search.specs.Chains.{Chained};
 ghost use Rattle.search.specs.Waiting.{unready, Ready};
 ghost use Rattle.search.specs.Shown.{Shows, Running, wanted, outcome, run-answer};
 ghost use Rattle.sheet.specs.Slots.{passes};
+use crate::visit::walk;
 use guide::Guide;
 use measure::Measure;
-use crate::visit::walk;
 use queue::entry::Entry;
 use queue::entry::EntryOrder;
 use queue::heap::take;
@@ -91,6 +91,16 @@ pub fn run<W: Measure, G: Guide<W>>(
         if is_target(target, head) {
             return Ok(Counts { closed, taken });
         }
-        count = walk(slots, head, heads, next, weights, guide, missing, queue, count);
+        count = walk(
+            slots,
+            head,
+            heads,
+            next,
+            weights,
+            guide,
+            missing,
+            queue,
+            count,
+        );
     }
 }

@@ -20,7 +20,6 @@ use queue::entry::Entry;
 use sheet::refusal::Refusal;
 use sheet::slot::Slot;
 
-
 // The answer where the target is closed: the line is drawn.
 fn finish<W: Measure>(
     slots: &[Slot],
@@ -37,7 +36,13 @@ fn finish<W: Measure>(
     ensures answered { λ r. ⌜ r ≡ record { weight = getD (now (weights .entry)) target (W·Measure .ops .heaviest); closed = counts .closed; taken = counts .taken; line = length (drawn-line (now (slots .entry)) (take (counts .closed) (now (order .entry))) target) } ⌝ }
     ensures drawn { λ r. ⌜ now (line .exit) ≡ drawn-line (now (slots .entry)) (take (counts .closed) (now (order .entry))) target ++ drop (length (drawn-line (now (slots .entry)) (take (counts .closed) (now (order .entry))) target)) (now (line .entry)) ⌝ }
 {
-    let len = draw(slots, &order[0..counts.closed as usize], target, needed, line);
+    let len = draw(
+        slots,
+        &order[0..counts.closed as usize],
+        target,
+        needed,
+        line,
+    );
     Found {
         weight: weights[target as usize],
         closed: counts.closed,
@@ -71,6 +76,17 @@ pub fn solve<W: Measure, G: Guide<W>>(
     let (order, work) = work.split_at_mut(facts);
     let (needed, work) = work.split_at_mut(facts);
     let (missing, next) = work.split_at_mut(rules);
-    let counts = explore(slots, Some(target), guide, weights, reasons, queue, heads, order, missing, next)?;
+    let counts = explore(
+        slots,
+        Some(target),
+        guide,
+        weights,
+        reasons,
+        queue,
+        heads,
+        order,
+        missing,
+        next,
+    )?;
     Ok(finish(slots, target, counts, weights, order, needed, line))
 }

@@ -27,8 +27,8 @@ loop-left-holds c =
     let n = length (c .args .needed .now) in
     let e : c .fill .last .self ≡ replicate n 0 = search needs in
     drawing-start _ _ _ _ _ (λ f h.
-      ap (λ l. getD (set l (c .args .target) 1) f 0) e
-      ∙ one-mark n (c .args .target) f (c .pre .known .0) (omega (arith, h, length-set (c .fill .last .self) (c .args .target) 1, c .fill .ensures .len)))
+    ap (λ l. getD (set l (c .args .target) 1) f 0) e
+    ∙ one-mark n (c .args .target) f (c .pre .known .0) (omega (arith, h, length-set (c .fill .last .self) (c .args .target) 1, c .fill .ensures .len)))
 
 pub unwind-rule-len-requires : need.unwind-rule-len-requires
 unwind-rule-len-requires c κs =
@@ -55,9 +55,9 @@ loop-left-again c =
     let h = within-parts n (rule-at xs r) (passes-at n xs r (c .pre .within) (s .0) .1) (s .1) .0 in
     let u = c .unwind-rule-len .ensures in
     drawing-next xs (c .args .order .now) (c .args .target) (c .loop-left .needed) (c .loop-left .line) (c .args .line .now) (c .loop-left .len) (c .loop-left .left)
-      d (c .loop-left-test .taken) (omega (arith, c .pre .known .1, c .loop-left .kept .line))
-      (c .unwind-rule-len .last .needed) (c .unwind-rule-len .last .line) (c .unwind-rule-len .result)
-      (omega (arith, h, k)) (c .unwind-rule-len .kept .needed) (u .counts) (u .written) (u .marks)
+    d (c .loop-left-test .taken) (omega (arith, c .pre .known .1, c .loop-left .kept .line))
+    (c .unwind-rule-len .last .needed) (c .unwind-rule-len .last .line) (c .unwind-rule-len .result)
+    (omega (arith, h, k)) (c .unwind-rule-len .kept .needed) (u .counts) (u .written) (u .marks)
 
 pub returns : need.returns
 returns c =

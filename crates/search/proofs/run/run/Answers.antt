@@ -100,4 +100,3 @@ loop-entry-again g c =
     let reasons = c .loop-entry .kept .reasons ∙ c .pre .long .0 ∙ sym (c .loop-entry .kept .weights) in
     let order = c .loop-entry .kept .order ∙ c .pre .long .1 ∙ sym (c .loop-entry .kept .weights) in
     rw (c .store .ensures) (turn-walked (g .W·Measure·met .lawful) _ _ _ _ _ _ _ _ _ _ _ lengths within (c .loop-entry .inv) _ _ (c .in-Some .ensures tt) _ head reasons order (c .pre .few .0) (c .if-reasons-head .left) _ _ _ (sym (c .is-target .ensures) ∙ c .if-is-target .left) (c .walk-count .ensures .left) (c .walk-count .ensures .total) (rw (c .store .ensures) at (c .walk-count .ensures .ready)))
-

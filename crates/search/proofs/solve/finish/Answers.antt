@@ -28,7 +28,7 @@ returns g c =
     let d = c .draw-len .ensures in
     let u = unwound-rules (c .args .slots .now) (reverse (take n (c .args .order .now))) (c .args .target ∷ []) in
     let len : c .draw-len .result ≡ length (drawn-line (c .args .slots .now) (take n (c .args .order .now)) (c .args .target)) =
-        d .counts ∙ ap (λ (k : ℕ). length (unwound-rules (c .args .slots .now) (reverse (take k (c .args .order .now))) (c .args .target ∷ []))) z ∙ sym (length-reverse u) in
+    d .counts ∙ ap (λ (k : ℕ). length (unwound-rules (c .args .slots .now) (reverse (take k (c .args .order .now))) (c .args .target ∷ []))) z ∙ sym (length-reverse u) in
     let read = getD-read (c .args .weights .now) _ _ (c .pre .known .0) (c .index-weights-target .is) (g .W·Measure .ops .heaviest) in
     record {
       answered = rw (len, read);

@@ -46,7 +46,8 @@ finish-requires g c κs =
         c .split-at-mut-needed .ensures .front-len ∙ sym w,
         omega (arith, k .closed-is, order-long m _ _ _ _ _ _ _ (b .shows)),
         omega (arith, c .explore .kept .order, c .split-at-mut-order .ensures .front-len, c .pre .few .1),
-        omega (arith, c .explore .kept .order, c .split-at-mut-order .ensures .front-len, c .pre .long .1));
+        omega (arith, c .explore .kept .order, c .split-at-mut-order .ensures .front-len, c .pre .long .1),
+      );
       within = subst (λ (n : ℕ). passes n (c .args .slots .now) ≡ true) (sym w) (c .pre .within);
       stand = subst (λ (n : ℕ). All (λ r. (r < length (c .args .slots .now)) × (rule-at (c .args .slots .now) r .struck ≡ false)) (take n (c .explore .last .order))) (sym (k .closed-is)) (rules-stand m _ _ _ _ _ _ _ (b .shows));
     }
