@@ -43,8 +43,8 @@ pub struct Fault {
 pub impl From<Refusal> for Cause as SheetCause {
     ghost converts = { λ e r. r ≡ Sheet e };
 
-    fn from(refusal: Refusal) -> Cause {
-        Cause::Sheet(refusal)
+    fn from(own: Refusal) -> Cause {
+        Cause::Sheet(own)
     }
 }
 
