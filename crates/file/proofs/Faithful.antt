@@ -111,13 +111,13 @@ opened xs size bs o all k =
     })
 
 -- a file that was read was written so
-record Told (xs : List Slot) (bs : List ℕ) (w : File) : Type 0 where
+record Accepted (xs : List Slot) (bs : List ℕ) (w : File) : Type 0 where
   fits : Fits xs (w .header) (w .entries)
   is : bs ≡ written (w .header) (w .entries)
 
-told : (xs : List Slot) (bs : List ℕ) (w : File) → Bytes bs → Ok w ≡ file xs bs → Told xs bs w
+accepted-so : (xs : List Slot) (bs : List ℕ) (w : File) → Bytes bs → Ok w ≡ file xs bs → Accepted xs bs w
 unfolding file
-told xs bs w all k =
+accepted-so xs bs w all k =
     let size = length bs in
     let u = went _ (at-field field.Facts 0 (says (new-answer xs))) w k in
     let o = went _ (opening xs size bs) w (u .2) in
@@ -155,7 +155,7 @@ faithful {bs} {xs} o all =
           (o .answered ∙ ap (mapped (λ f. f .header)) (sym b), o .left ∙ ap (λ r. after-reading r xs) (sym b));
       only = λ h e.
           let m = mapped-in (λ f. f .header) (file xs bs) h (sym e ∙ o .answered) in
-          let t = told xs bs (m .0) all (m .1) in
+          let t = accepted-so xs bs (m .0) all (m .1) in
           (m .0 .entries, subst (λ y. Fits xs y (m .0 .entries)) (sym (m .2)) (t .fits), subst (λ y. bs ≡ written y (m .0 .entries)) (sym (m .2)) (t .is), o .left ∙ ap (λ r. after-reading r xs) (sym (m .1)));
       keeps = λ e h. o .left ∙ kept (file xs bs) xs e (sym (o .answered) ∙ h);
     }

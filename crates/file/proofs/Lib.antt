@@ -2,6 +2,7 @@ mod Spelled
 mod Followed
 mod Parted
 mod Filled
+mod Opened
 mod Closed
 mod Sound
 mod Entered

@@ -5,13 +5,14 @@ use Rattle.std.proofs.shelf.Tests.{cond-true, cond-false, lt-ltb, le-ltb}
 use lib.Dec.{ltb}
 use Rattle.file.specs.Faults.{bind}
 use Rattle.file.specs.Number.{number, short, shortened}
+use Rattle.file.proofs.Followed.{stops}
 use Rattle.file.proofs.number.take_short.Needs as need
 
 pub returns-in-Break-value : need.returns-in-Break-value
 unfolding short
 returns-in-Break-value c =
     let p = err-from-errBy (c .from-residual .result) (c .from-residual .ensures .1) in
-    rw (p .1, p .2) (ap (λ r. bind r shortened) (c .in-Break-value .ensures tt))
+    rw (p .1, p .2) (stops shortened (number (c .args .input .now)) _ (c .in-Break-value .ensures tt))
 
 pub returns-then-value-gt65535 : need.returns-then-value-gt65535
 unfolding short
