@@ -10,3 +10,4 @@ mod Reading
 mod Written
 mod Restored
 mod Faithful
+mod Worked

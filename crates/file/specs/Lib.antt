@@ -5,3 +5,4 @@ pub mod Whole
 pub mod Limits
 pub mod Entering
 pub mod Written
+pub mod Examples

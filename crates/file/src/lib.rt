@@ -1,4 +1,5 @@
 // The reader of sheet files.
+mod examples;
 pub mod fault;
 mod fields;
 mod fill;
