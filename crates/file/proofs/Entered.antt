@@ -1,7 +1,7 @@
 -- Filling the empty slots is entering the rules one after another.
 use mathlib.Core.Path.{_≡_, refl, sym, ap, _∙_}
 use mathlib.Core.List.{List, [], _∷_}
-use Prim.Native.Nat.{ℕ, zero, suc, _+_, _-_, _<_, _≤_}
+use Prim.Native.Nat.{ℕ, zero, suc, _-_, _<_, _≤_}
 use native.Mathlib.Omega.{arith}
 use lib.ListN.{length, take, set}
 use Rattle.std.proofs.shelf.Ways.{tells}
@@ -11,7 +11,7 @@ use Rattle.sheet.specs.declared.slot.Slot.{Slot}
 use Rattle.sheet.specs.declared.slot.Slot.the-variants.{Empty, Full}
 use Rattle.sheet.specs.Refusals.{accepted, after}
 use Rattle.sheet.specs.Rules.{made}
-use Rattle.sheet.specs.Slots.{used, fulls, empties, count, free}
+use Rattle.sheet.specs.Slots.{fulls, empties, count, free}
 use Rattle.sheet.specs.Edits.{enter-answer, enter-slots}
 use Rattle.file.specs.Rules.{Entry, rule-of}
 use Rattle.file.specs.Limits.{Within}

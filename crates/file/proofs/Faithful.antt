@@ -1,16 +1,13 @@
 -- Reading undoes writing, and accepts nothing else.
 use mathlib.Core.Path.{_≡_, refl, sym, ap, subst, _∙_}
-use mathlib.Core.Bool.{cond}
 use mathlib.Core.List.{List, [], _∷_, _++_}
-use Prim.Native.Nat.{ℕ, zero, suc, min, _-_, _<_, _≤_}
+use Prim.Native.Nat.{ℕ, _-_, _<_, _≤_}
 use native.Mathlib.Omega.{arith}
-use lib.Dec.{ltb}
-use lib.ListN.{length, getD, take, length-take}
+use lib.ListN.{length, getD, length-take}
 use Rattle.std.proofs.shelf.Lists.{append-nil}
 use Rattle.std.proofs.shelf.Elements.{all-from-getD}
 use Rattle.std.proofs.shelf.Ways.{tells}
 use Rattle.std.specs.Joined.{joined}
-use Rattle.std.specs.shelf.Lists.{All}
 use Rattle.std.specs.declared.result.Result.{Result}
 use Rattle.std.specs.declared.result.Result.the-variants.{Ok, Err}
 use Rattle.sheet.specs.declared.slot.Slot.{Slot}
@@ -19,19 +16,18 @@ use Rattle.sheet.specs.Refusals.{Answer, accepted, refused}
 use Rattle.sheet.specs.Slots.{used, empties, count, free}
 use Rattle.file.specs.declared.fault.Field.the-variants as field
 use Rattle.file.specs.declared.header.Header.{Header}
-use Rattle.file.specs.Faults.{Reason, Report, bind, mapped, says, at-field, tail, reason, in-sheet}
+use Rattle.file.specs.Faults.{Report, mapped, says, at-field, tail, reason, in-sheet}
 use Rattle.file.specs.Number.{short, count-field}
 use Rattle.file.specs.Rules.{Entry, taken, rules}
-use Rattle.file.specs.Limits.{Within}
 use Rattle.file.specs.Whole.{File, new-answer, opening, closing, ended, file}
-use Rattle.file.specs.Entering.{entered, after-reading, read-answer, read-slots}
+use Rattle.file.specs.Entering.{after-reading}
 use Rattle.file.specs.Written.{spelled, written-rule, written, Fits, Faithful}
 use Rattle.file.proofs.Followed.{never, goes, went, mapped-in, field-was}
 use Rattle.file.proofs.Closed.{closing-was}
 use Rattle.file.proofs.Sound.{short-at-was, count-was, rules-within}
-use Rattle.file.proofs.Written.{Bytes, Spelt, number-was}
+use Rattle.file.proofs.Written.{Bytes, number-was}
 use Rattle.file.proofs.Reading.{Owed}
-use Rattle.file.proofs.Restored.{short-back, at-back, count-back, rules-back, Held, short-held, rules-held}
+use Rattle.file.proofs.Restored.{short-back, at-back, count-back, rules-back, short-held, rules-held}
 
 empties-bound : (xs : List Slot) → empties xs ≤ length xs
 empties-bound [] = omega arith

@@ -1,6 +1,6 @@
 -- Steps one after another: forwards from what each gave, and backwards from what all gave.
 use mathlib.Core.Path.{_≡_, refl, sym, ap, _∙_}
-use mathlib.Core.List.{List, [], _∷_}
+use mathlib.Core.List.{List}
 use Prim.Native.Nat.{ℕ, _≤_}
 use native.Mathlib.Omega.{arith}
 use Rattle.std.proofs.shelf.Ways.{tells}
@@ -10,7 +10,7 @@ use Rattle.sheet.specs.Refusals.{Answer, Told, accepted, refused}
 use Rattle.sheet.specs.Edits.{body-answer, cost-answer}
 use Rattle.file.specs.declared.fault.Cause.{Cause}
 use Rattle.file.specs.declared.fault.Field.{Field}
-use Rattle.file.specs.Faults.{Reason, Report, reason, report, in-sheet, bind, mapped, says, heard, reason-of, report-of, at-field, placed-at}
+use Rattle.file.specs.Faults.{Reason, reason, report, in-sheet, bind, mapped, says, heard, reason-of, report-of, at-field, placed-at}
 
 pub never : {A B E : Type 0} (x : A) (e : E) → Ok x ≡ Err e → B
 never x e h = let z : _≡_ {A = ℕ} 0 1 = cc in absurd (omega arith)

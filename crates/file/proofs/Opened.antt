@@ -2,11 +2,9 @@
 use mathlib.Core.Path.{_≡_, refl}
 use mathlib.Core.List.{List}
 use Prim.Native.Nat.{ℕ}
-use Rattle.std.specs.declared.result.Result.{Result}
 use Rattle.std.specs.declared.result.Result.the-variants.{Ok, Err}
 use Rattle.sheet.specs.declared.slot.Slot.{Slot}
 use Rattle.file.specs.declared.fault.Field.the-variants as field
-use Rattle.file.specs.declared.header.Header.{Header}
 use Rattle.file.specs.Faults.{Report}
 use Rattle.file.specs.Number.{short, count-field}
 use Rattle.file.specs.Rules.{taken}

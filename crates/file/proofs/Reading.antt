@@ -1,11 +1,10 @@
 -- The answer and the slots, from what each part of the file gave.
 use mathlib.Core.Path.{_≡_, refl, sym, ap, _∙_}
 use mathlib.Core.Bool.{true}
-use mathlib.Core.List.{List, [], _∷_}
-use Prim.Native.Nat.{ℕ, _-_, _<_, _≤_}
+use mathlib.Core.List.{List}
+use Prim.Native.Nat.{ℕ, _-_, _≤_}
 use native.Mathlib.Omega.{arith}
 use lib.ListN.{length}
-use Rattle.std.specs.shelf.Lists.{All}
 use Rattle.std.specs.Results.{isOk}
 use Rattle.std.specs.declared.result.Result.{Result}
 use Rattle.std.specs.declared.result.Result.the-variants.{Ok, Err}
@@ -13,12 +12,11 @@ use Rattle.sheet.specs.declared.slot.Slot.{Slot}
 use Rattle.sheet.specs.Slots.{free}
 use Rattle.file.specs.declared.fault.Field.the-variants as field
 use Rattle.file.specs.declared.header.Header.{Header}
-use Rattle.file.specs.Faults.{Report, bind, mapped, says, at-field}
+use Rattle.file.specs.Faults.{Report, mapped, says, at-field}
 use Rattle.file.specs.Number.{short, count-field}
-use Rattle.file.specs.Rules.{Entry, taken, rules}
-use Rattle.file.specs.Limits.{Within}
-use Rattle.file.specs.Whole.{File, new-answer, opening, closing, file}
-use Rattle.file.specs.Entering.{filled, filled-by, entered, after-reading, read-answer, read-slots}
+use Rattle.file.specs.Rules.{taken, rules}
+use Rattle.file.specs.Whole.{new-answer, opening, closing, file}
+use Rattle.file.specs.Entering.{filled, filled-by, after-reading, read-answer, read-slots}
 use Rattle.file.proofs.Followed.{stops, goes, went, mapped-out, mapped-in}
 use Rattle.file.proofs.Closed.{verdict, closing-was}
 use Rattle.file.proofs.Sound.{count-was, rules-within}

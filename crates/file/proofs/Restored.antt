@@ -1,29 +1,29 @@
 -- Rules and files written and read back.
 use mathlib.Core.Path.{_≡_, refl, sym, ap, subst, _∙_}
 use mathlib.Core.List.{List, [], _∷_, _++_}
-use Prim.Native.Nat.{ℕ, zero, suc, _-_, _<_, _≤_}
+use Prim.Native.Nat.{ℕ, zero, suc, _-_, _≤_}
 use native.Mathlib.Omega.{arith}
 use lib.ListN.{length}
-use Rattle.std.proofs.shelf.Lists.{append-assoc, append-nil}
+use Rattle.std.proofs.shelf.Lists.{append-assoc}
 use Rattle.std.proofs.shelf.Ways.{tells}
 use Rattle.std.specs.Joined.{joined}
 use Rattle.std.specs.shelf.Lists.{All}
 use Rattle.std.specs.declared.result.Result.{Result}
-use Rattle.std.specs.declared.result.Result.the-variants.{Ok, Err}
+use Rattle.std.specs.declared.result.Result.the-variants.{Ok}
 use Rattle.sheet.specs.declared.slot.Slot.{Slot}
 use Rattle.sheet.specs.Refusals.{accepted}
 use Rattle.sheet.specs.Edits.{body-answer, cost-answer, room-answer}
 use Rattle.sheet.specs.Slots.{free}
 use Rattle.file.specs.declared.fault.Field.{Field}
 use Rattle.file.specs.declared.fault.Field.the-variants as field
-use Rattle.file.specs.Faults.{Reason, Report, bind, at-field}
+use Rattle.file.specs.Faults.{Reason, at-field}
 use Rattle.file.specs.Number.{number, short, shortened, arity-field, cost-field, count-field}
 use Rattle.file.specs.Rules.{Entry, taken, body, rule, rules}
 use Rattle.file.specs.Limits.{Within}
 use Rattle.file.specs.Written.{spelled, written-rule}
 use Rattle.file.proofs.Followed.{goes, went, tested-in}
 use Rattle.file.proofs.Parted.{body-long}
-use Rattle.file.proofs.Sound.{short-at-was, arity-was, cost-was, Parts, parts}
+use Rattle.file.proofs.Sound.{short-at-was, arity-was, cost-was, parts}
 use Rattle.file.proofs.Written.{Bytes, Spelt, read-back, number-was}
 
 -- fields that are written are read

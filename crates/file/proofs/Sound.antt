@@ -1,25 +1,23 @@
 -- What is read keeps the limits.
-use mathlib.Core.Path.{_≡_, refl, sym, ap, _∙_}
+use mathlib.Core.Path.{_≡_, refl, ap, _∙_}
 use mathlib.Core.List.{List, [], _∷_}
-use Prim.Native.Nat.{ℕ, zero, suc, _-_, _<_, _≤_}
+use Prim.Native.Nat.{ℕ, zero, suc, _-_, _≤_}
 use native.Mathlib.Omega.{arith}
 use lib.ListN.{length}
 use Rattle.std.proofs.shelf.Ways.{tells}
 use Rattle.std.specs.shelf.Lists.{All}
 use Rattle.std.specs.declared.result.Result.{Result}
-use Rattle.std.specs.declared.result.Result.the-variants.{Ok, Err}
+use Rattle.std.specs.declared.result.Result.the-variants.{Ok}
 use Rattle.sheet.specs.declared.slot.Slot.{Slot}
 use Rattle.sheet.specs.Refusals.{accepted}
 use Rattle.sheet.specs.Edits.{body-answer, cost-answer, room-answer}
 use Rattle.sheet.specs.Slots.{free}
 use Rattle.file.specs.declared.fault.Field.{Field}
 use Rattle.file.specs.declared.fault.Field.the-variants as field
-use Rattle.file.specs.declared.header.Header.{Header}
-use Rattle.file.specs.Faults.{Reason, Report, bind}
+use Rattle.file.specs.Faults.{Reason}
 use Rattle.file.specs.Number.{number, short, shortened, arity-field, cost-field, count-field}
 use Rattle.file.specs.Rules.{Entry, taken, body, rule, rules}
 use Rattle.file.specs.Limits.{Within}
-use Rattle.file.specs.Whole.{opening}
 use Rattle.file.proofs.Followed.{went, field-was, tested, body-fits, cost-fits}
 use Rattle.file.proofs.Parted.{body-long}
 

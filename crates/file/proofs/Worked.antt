@@ -1,5 +1,5 @@
 -- The worked examples.
-use mathlib.Core.Path.{_≡_, refl}
+use mathlib.Core.Path.{refl}
 use Rattle.sheet.specs.Slots.{count, free}
 use Rattle.file.specs.Number.{number, short, count-field, arity-field, cost-field}
 use Rattle.file.specs.Rules.{rule}

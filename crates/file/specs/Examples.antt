@@ -9,7 +9,7 @@ use Rattle.sheet.specs.declared.slot.Slot.{Slot}
 use Rattle.sheet.specs.declared.slot.Slot.the-variants.{Empty, Full}
 use Rattle.file.specs.declared.fault.Field.the-variants as field
 use Rattle.file.specs.declared.header.Header.{Header}
-use Rattle.file.specs.Faults.{Report, reason, report, in-bytes, in-sheet, cut, malformed, tail}
+use Rattle.file.specs.Faults.{Report, reason, report, in-sheet, cut, malformed, tail}
 use Rattle.file.specs.Number.{number}
 use Rattle.file.specs.Rules.{Entry, rule-of}
 use Rattle.file.specs.Entering.{read-answer, read-slots}

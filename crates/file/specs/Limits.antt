@@ -1,6 +1,5 @@
 -- The limits that a rule of a file keeps.
-use mathlib.Core.List.{List}
-use Prim.Native.Nat.{ℕ, _≤_}
+use Prim.Native.Nat.{_≤_}
 use lib.ListN.{length}
 use Rattle.std.specs.shelf.Lists.{All}
 use Rattle.file.specs.Rules.{Entry}

@@ -1,7 +1,6 @@
-use mathlib.Core.Path.{_≡_, refl, sym, ap, _∙_}
 use native.Mathlib.Omega.{arith}
 use Rattle.std.proofs.shelf.Results.{err-from-errBy}
-use Rattle.file.proofs.Reading.{Owed, sheet-out, opening-out, rules-out, all-in}
+use Rattle.file.proofs.Reading.{sheet-out, opening-out, rules-out, all-in}
 use Rattle.file.proofs.Faithful.{bytes, faithful}
 use Rattle.file.proofs.read.Needs as need
 

@@ -1,4 +1,4 @@
-use mathlib.Core.Path.{_≡_, refl, sym, ap, _∙_}
+use mathlib.Core.Path.{_∙_}
 use Rattle.std.proofs.shelf.Results.{err-from-errBy}
 use Rattle.file.proofs.Closed.{closing-out, closing-end}
 use Rattle.file.proofs.judge.check_rules.Needs as need
