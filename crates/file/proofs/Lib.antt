@@ -1,0 +1,13 @@
+mod Spelled
+mod Followed
+mod Parted
+mod Filled
+mod Opened
+mod Closed
+mod Sound
+mod Entered
+mod Reading
+mod Written
+mod Restored
+mod Faithful
+mod Worked
