@@ -1,4 +1,7 @@
 // Why a file is refused: the refusal, the field, and the place of the field's first byte.
+ghost use mathlib.Core.Path.{_≡_};
+ghost use Rattle.file.specs.declared.fault.Cause.the-variants.{Sheet};
+ghost use Rattle.file.specs.Faults.{refusal-of, placed-at};
 use sheet::refusal::Refusal;
 
 #[derive(Clone, Copy)]
@@ -37,10 +40,8 @@ pub struct Fault {
     pub place: usize,
 }
 
-ghost use mathlib.Core.Path.{_≡_};
-
 pub impl From<Refusal> for Cause as SheetCause {
-    ghost converts = { λ e r. r ≡ Cause.Sheet e };
+    ghost converts = { λ e r. r ≡ Sheet e };
 
     fn from(refusal: Refusal) -> Cause {
         Cause::Sheet(refusal)
@@ -48,8 +49,10 @@ pub impl From<Refusal> for Cause as SheetCause {
 }
 
 impl Cause {
-    // The refusal, whichever it is of.
-    pub fn refusal(self) -> Refusal {
+    // The refusal, whosever it is.
+    pub fn refusal(self) -> Refusal
+        ensures { λ r. ⌜ r ≡ refusal-of self ⌝ }
+    {
         match self {
             Cause::Bytes(refusal) => refusal,
             Cause::Sheet(refusal) => refusal,
@@ -57,8 +60,10 @@ impl Cause {
     }
 }
 
-// A result at a field that begins at a place.
-pub fn located<T: Drop>(result: Result<T, Cause>, field: Field, place: usize) -> Result<T, Fault> {
+// What was read of a field that begins at a place.
+pub fn located<T>(result: Result<T, Cause>, field: Field, place: usize) -> Result<T, Fault>
+    ensures { λ r. ⌜ r ≡ placed-at field place result ⌝ }
+{
     match result {
         Ok(value) => Ok(value),
         Err(cause) => Err(Fault {

@@ -1,0 +1,2 @@
+mod Spelled
+mod Followed

@@ -1,0 +1,5 @@
+pub mod Faults
+pub mod Number
+pub mod Rules
+pub mod Whole
+pub mod Entering
