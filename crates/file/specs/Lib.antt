@@ -2,4 +2,5 @@ pub mod Faults
 pub mod Number
 pub mod Rules
 pub mod Whole
+pub mod Limits
 pub mod Entering

@@ -2,6 +2,7 @@
 use mathlib.Core.Bool.{cond}
 use mathlib.Core.List.{List, [], _∷_}
 use Prim.Native.Nat.{ℕ, _-_}
+use denote.Ref.{RefT, now}
 use lib.Dec.{ltb}
 use lib.ListN.{length}
 use Rattle.std.specs.declared.result.Result.{Result}
@@ -47,3 +48,12 @@ file xs bs =
     bind (opening xs (length bs) bs) (λ o.
     bind (closing (length bs) (o .1) (o .2)) (λ es.
     Ok (record { header = o .0; entries = es }))))
+
+-- Results of the code with what their reference shows.
+abbrev pub shown : {E F : Type 0} → (E → F) → Result (Header × ℕ × RefT (List ℕ)) E → Result (Header × ℕ × List ℕ) F
+shown f (Ok o) = Ok (o .0, o .1, now (o .2))
+shown f (Err e) = Err (f e)
+
+abbrev pub rest-of : {E F : Type 0} → (E → F) → Result (RefT (List ℕ)) E → Result (List ℕ) F
+rest-of f (Ok x) = Ok (now x)
+rest-of f (Err e) = Err (f e)
