@@ -6,3 +6,6 @@ mod Closed
 mod Sound
 mod Entered
 mod Reading
+mod Written
+mod Restored
+mod Faithful

@@ -4,3 +4,4 @@ pub mod Rules
 pub mod Whole
 pub mod Limits
 pub mod Entering
+pub mod Written

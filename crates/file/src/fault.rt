@@ -1,7 +1,7 @@
 // Why a file is refused: the refusal, the field, and the place of the field's first byte.
 ghost use mathlib.Core.Path.{_≡_};
 ghost use Rattle.file.specs.declared.fault.Cause.the-variants.{Sheet};
-ghost use Rattle.file.specs.Faults.{refusal-of, placed-at};
+ghost use Rattle.file.specs.Faults.{refusal-of};
 use sheet::refusal::Refusal;
 
 #[derive(Clone, Copy)]
@@ -57,19 +57,5 @@ impl Cause {
             Cause::Bytes(refusal) => refusal,
             Cause::Sheet(refusal) => refusal,
         }
-    }
-}
-
-// What was read of a field that begins at a place.
-pub fn located<T>(result: Result<T, Cause>, field: Field, place: usize) -> Result<T, Fault>
-    ensures { λ r. ⌜ r ≡ placed-at field place result ⌝ }
-{
-    match result {
-        Ok(value) => Ok(value),
-        Err(cause) => Err(Fault {
-            cause,
-            field,
-            place,
-        }),
     }
 }

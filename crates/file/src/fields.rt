@@ -5,15 +5,14 @@ ghost use lib.ListN.{length};
 ghost use Rattle.sheet.specs.Refusals.{answer};
 ghost use Rattle.sheet.specs.Edits.{room-answer};
 ghost use Rattle.file.specs.declared.fault.Field.the-variants as at;
-ghost use Rattle.file.specs.Faults.{heard, seen, says, at-field, reason-of, report-of};
+ghost use Rattle.file.specs.Faults.{heard, seen, says, at-field, placed-at, reason-of, report-of};
 ghost use Rattle.file.specs.Number.{short, count-field, arity-field, cost-field};
 ghost use Rattle.file.specs.Rules.{taken};
-ghost use Rattle.file.specs.Whole.{new-answer};
+ghost use Rattle.file.specs.Whole.{new-answer, ended};
 use crate::fault::Cause;
 use crate::fault::Fault;
 use crate::fault::Field;
 use crate::fault::SheetCause;
-use crate::fault::located;
 use crate::number::take_number;
 use crate::number::take_short;
 use sheet::edit::check_body;
@@ -23,8 +22,22 @@ use sheet::slot::Slot;
 use sheet::slot::entered;
 use sheet::slot::vacant;
 
+// What was read of a field that begins at a place.
+fn located<T>(result: Result<T, Cause>, field: Field, place: usize) -> Result<T, Fault>
+    ensures { λ r. ⌜ r ≡ placed-at field place result ⌝ }
+{
+    match result {
+        Ok(value) => Ok(value),
+        Err(cause) => Err(Fault {
+            cause,
+            field,
+            place,
+        }),
+    }
+}
+
 // The place of the first byte left, in a file of this size.
-pub fn place(size: usize, left: &[u8]) -> usize
+fn place(size: usize, left: &[u8]) -> usize
     ensures { λ r. ⌜ r ≡ size - length (now (left .entry)) ⌝ }
 {
     size.saturating_sub(left.len())
@@ -118,4 +131,21 @@ pub fn cost_at(size: usize, input: &[u8]) -> Result<(u32, &[u8]), Fault>
     ensures { λ r. ⌜ seen report-of r ≡ taken at.Cost cost-field size (now (input .entry)) ⌝ }
 {
     located(take_cost(input), Field::Cost, place(size, input))
+}
+
+// Nothing may be left.
+fn check_end(left: &[u8]) -> Result<(), Cause>
+    ensures { λ r. ⌜ heard reason-of r ≡ ended (now (left .entry)) ⌝ }
+{
+    match left {
+        [] => Ok(()),
+        _ => Err(Cause::Bytes(Refusal::Tail)),
+    }
+}
+
+// Bytes that are left are refused.
+pub fn check_tail(size: usize, left: &[u8]) -> Result<(), Fault>
+    ensures { λ r. ⌜ heard report-of r ≡ taken at.Tail ended size (now (left .entry)) ⌝ }
+{
+    located(check_end(left), Field::Tail, place(size, left))
 }

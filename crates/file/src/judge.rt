@@ -1,19 +1,16 @@
 // The judgement of a whole file, before any of it is entered.
 ghost use mathlib.Core.Path.{_≡_};
 ghost use lib.ListN.{length};
-ghost use Rattle.file.specs.Faults.{heard, mapped, reason-of, report-of};
+ghost use Rattle.file.specs.Faults.{heard, mapped, report-of};
 ghost use Rattle.file.specs.Rules.{rules as rules-at};
-ghost use Rattle.file.specs.Whole.{opening, closing, ended, shown, rest-of};
-use crate::fault::Cause;
+ghost use Rattle.file.specs.Whole.{opening, closing, shown, rest-of};
 use crate::fault::Fault;
 use crate::fault::Field;
-use crate::fault::located;
+use crate::fields::check_tail;
 use crate::fields::count_at;
-use crate::fields::place;
 use crate::fields::short_at;
 use crate::header::Header;
 use crate::rules::take_rule;
-use sheet::refusal::Refusal;
 use sheet::slot::Slot;
 
 // Takes the fields before the rules: answers the header, the number of rules, and their bytes.
@@ -41,20 +38,10 @@ fn skip_rules(size: usize, input: &[u8], count: u16) -> Result<&[u8], Fault>
     Ok(left)
 }
 
-// Nothing may be left.
-fn check_end(left: &[u8]) -> Result<(), Cause>
-    ensures { λ r. ⌜ heard reason-of r ≡ ended (now (left .entry)) ⌝ }
-{
-    match left {
-        [] => Ok(()),
-        _ => Err(Cause::Bytes(Refusal::Tail)),
-    }
-}
-
 // So many rules must follow, and nothing after them.
 pub fn check_rules(size: usize, input: &[u8], count: u16) -> Result<(), Fault>
     ensures { λ r. ⌜ heard report-of r ≡ mapped (λ _. tt) (closing size count (now (input .entry))) ⌝ }
 {
     let left = skip_rules(size, input, count)?;
-    located(check_end(left), Field::Tail, place(size, left))
+    check_tail(size, left)
 }

@@ -1,9 +1,5 @@
 use mathlib.Core.Path.{_≡_, refl, sym, ap, _∙_}
 use Rattle.std.proofs.shelf.Results.{err-from-errBy}
-use Rattle.file.specs.declared.fault.Field.the-variants as field
-use Rattle.file.specs.Faults.{at-field, heard, report-of}
-use Rattle.file.specs.Whole.{ended}
-use Rattle.file.proofs.Followed.{heard-at}
 use Rattle.file.proofs.Closed.{closing-out, closing-end}
 use Rattle.file.proofs.judge.check_rules.Needs as need
 
@@ -14,8 +10,4 @@ returns-in-Break-left c =
 
 pub returns : need.returns
 returns c =
-    ap (heard report-of) (c .located .ensures)
-    ∙ heard-at field.Tail (c .place .result) (c .check-end .result)
-    ∙ ap (at-field field.Tail (c .place .result)) (c .check-end .ensures)
-    ∙ ap (λ p. at-field field.Tail p (ended (c .in-Continue-left .left .now))) (c .place .ensures)
-    ∙ closing-end _ _ (c .args .input .now) (c .in-Continue-left .left .now) (c .in-Continue-left .ensures tt)
+    c .check-tail .ensures ∙ closing-end _ _ (c .args .input .now) (c .in-Continue-left .left .now) (c .in-Continue-left .ensures tt)
