@@ -1,0 +1,11 @@
+mod Spelled
+mod Followed
+mod Parted
+mod Filled
+mod Closed
+mod Sound
+mod Entered
+mod Reading
+mod Written
+mod Restored
+mod Faithful
