@@ -1,6 +1,7 @@
 // Why the program ends with no grades.
 ghost use mathlib.Core.Path.{_≡_};
-ghost use Rattle.grade.specs.declared.failure.Failure.the-variants.{Refused, Memory};
+ghost use Rattle.file.specs.Faults.{refusal-of};
+ghost use Rattle.grade.specs.declared.failure.Failure.the-variants.{Refused, Memory, Stream};
 use file::fault::Fault;
 use sheet::refusal::Refusal;
 use std::alloc::AllocError;
@@ -25,6 +26,8 @@ pub impl From<Refusal> for Failure as RefusalFailure {
 }
 
 pub impl From<Fault> for Failure as FaultFailure {
+    ghost converts = { λ e r. r ≡ Refused (refusal-of (e .cause)) };
+
     fn from(fault: Fault) -> Failure {
         Failure::Refused(fault.cause.refusal())
     }
@@ -39,6 +42,8 @@ pub impl From<AllocError> for Failure as MemoryFailure {
 }
 
 pub impl From<io::Error> for Failure as StreamFailure {
+    ghost converts = { λ e r. r ≡ Stream e };
+
     fn from(error: io::Error) -> Failure {
         Failure::Stream(error)
     }
