@@ -1,5 +1,5 @@
 use mathlib.Core.Bool.{true, false}
-use mathlib.Core.Path.{_≡_, refl, sym, ap, _∙_}
+use mathlib.Core.Path.{_≡_, sym, ap, _∙_}
 use Rattle.derivation.specs.Fit.{fits, rule-fails, check-rules, rule-fits}
 use Rattle.sheet.specs.declared.slot.Slot.the-variants.{Full}
 use Rattle.guide.specs.Weighted.{weigh, weighted}
