@@ -1,7 +1,7 @@
 -- The check of fit, rule by rule, and what it decides.
 use mathlib.Core.Path.{_≡_, refl, sym, ap, _∙_, subst}
-use mathlib.Core.Bool.{Bool, true, false, cond, _&&_, _||_}
-use mathlib.Core.List.{List, [], _∷_, map}
+use mathlib.Core.Bool.{Bool, true, false, _&&_, _||_}
+use mathlib.Core.List.{List, map}
 use mathlib.Core.Logic.{inl, inr}
 use Prim.Native.Nat.{ℕ, zero, suc, _+_, _<_, _≤_}
 use native.Mathlib.Numerals.{add-one}
@@ -13,11 +13,11 @@ use Rattle.measure.specs.Ops.{Ops, Laws}
 use Rattle.sheet.specs.declared.rule.Rule.{Rule as Record}
 use Rattle.sheet.specs.declared.slot.Slot.{Slot}
 use Rattle.sheet.specs.declared.slot.Slot.the-variants.{Empty, Full}
-use Rattle.sheet.specs.Refusals.{Answer, accepted, refused}
+use Rattle.sheet.specs.Refusals.{Answer}
 use Rattle.sheet.specs.Rules.{body-of}
 use Rattle.sheet.specs.Slots.{rule-in}
-use Rattle.derivation.specs.Rules.{Rule, rule-at, Standing}
-use Rattle.derivation.specs.Fit.{all-below, floor-kept, rest-kept, beside, rule-fits, Keeps, Verdict, fits, target-fails, rule-fails, check-rules, check-fit}
+use Rattle.derivation.specs.Rules.{Rule}
+use Rattle.derivation.specs.Fit.{all-below, floor-kept, rest-kept, beside, rule-fits, Verdict, fits, target-fails, rule-fails, check-rules, check-fit}
 use Rattle.derivation.specs.Joins.{joined, without}
 use Rattle.derivation.specs.Theorems.{Decided-at}
 use Rattle.derivation.proofs.Checked.{decided-at}
@@ -46,11 +46,8 @@ module _ {W : Type 0} {m : Ops W} (laws : Laws m) (floor : ℕ → W) (r : Recor
   joining facts = m .join (m .effort (r .cost)) (joined m (map floor facts))
 
   -- the effort of the cost is that of the limit, where it is above the limit
-  joining-is : (facts : List ℕ) → joining facts ≡ m .join (weigh m (Full r) .effort) (joined m (map floor facts))
+  pub joining-is : (facts : List ℕ) → joining facts ≡ m .join (weigh m (Full r) .effort) (joined m (map floor facts))
   joining-is facts = ap (λ w. m .join w (joined m (map floor facts))) (laws .effort-limit (r .cost))
-
-  pub whole-is : joining (body-of r) ≡ m .join (weigh m (Full r) .effort) (joined m (map floor (body-of r)))
-  whole-is = joining-is (body-of r)
 
   -- what the floors before and after a place give
   pub beside-is : (i : ℕ) → m .join (joining (take i (body-of r))) (joined m (map floor (drop (i + 1) (body-of r)))) ≡ beside m floor (weigh m (Full r)) i

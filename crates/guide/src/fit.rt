@@ -18,28 +18,29 @@ use sheet::refusal::Refusal;
 use sheet::rule::Rule;
 
 // A weight joined with the floors of some facts.
-fn with_floors<W: Measure, G: Guide<W>>(weight: W, facts: &[u16], guide: &G) -> W
-    requires { ⌜ W·Measure .ops .norm weight ≡ weight ⌝ }
-    ensures { λ r. ⌜ r ≡ W·Measure .ops .join weight (joined (W·Measure .ops) (map (G·Guide .floor (now (guide .entry))) (now (facts .entry)))) ⌝ }
+fn with_floors<W: Measure, G: Guide<W>>(start: W, facts: &[u16], guide: &G) -> W
+    requires { ⌜ W·Measure .ops .norm start ≡ start ⌝ }
+    ensures { λ r. ⌜ r ≡ W·Measure .ops .join start (joined (W·Measure .ops) (map (G·Guide .floor (now (guide .entry))) (now (facts .entry)))) ⌝ }
 {
-    let mut sum = weight;
+    let mut weight = start;
     for fact in facts {
-        sum = sum.join(guide.floor(*fact));
+        weight = weight.join(guide.floor(*fact));
     }
-    sum
+    weight
 }
 
-// Whether a rule keeps both conditions. At each place the rest of its fact is no heavier than the effort joined with the floors
-// at the other places and the rest of the head. The floor of the head is no heavier than the effort joined with the floors of the body.
+// Whether a rule keeps both conditions:
+// the rest of the fact at each place is no heavier than the effort joined with the floors at the other places and the rest of the head,
+// and the floor of the head is no heavier than the effort joined with the floors of the body.
 fn keeps<W: Measure, G: Guide<W>>(rule: &Rule, guide: &G) -> bool
     ensures { λ r. ⌜ r ≡ (floor-kept (W·Measure .ops) (G·Guide .floor (now (guide .entry))) (weigh (W·Measure .ops) (Full (now (rule .entry)))) && all-below (length (body-of (now (rule .entry)))) (rest-kept (W·Measure .ops) (G·Guide .floor (now (guide .entry))) (G·Guide .rest (now (guide .entry))) (weigh (W·Measure .ops) (Full (now (rule .entry)))))) ⌝ }
 {
     let body = rule.body();
-    let head = guide.rest(rule.head);
+    let head_rest = guide.rest(rule.head);
     let mut before = W::effort(rule.cost);
     for (place, fact) in body.iter().enumerate() {
         let beside = with_floors(before, &body[place + 1..], guide);
-        if !guide.rest(*fact).no_heavier(beside.join(head)) {
+        if !guide.rest(*fact).no_heavier(beside.join(head_rest)) {
             return false;
         }
         before = before.join(guide.floor(*fact));
@@ -66,7 +67,8 @@ pub fn check_fit<W: Measure, G: Guide<W>>(
     if !guide.rest(target).no_heavier(W::nothing()) {
         return Err(Refusal::Unfit(Misfit::Target(target)));
     }
-    for (number, slot) in sheet.slots().iter().enumerate() {
+    let slots = sheet.slots();
+    for (number, slot) in slots.iter().enumerate() {
         if !rule_fits(&slot.rule(), guide) {
             return Err(Refusal::Unfit(Misfit::Rule(number as u16)));
         }

@@ -8,4 +8,4 @@ abbrev pub Inv-loop-number : given.InvT-loop-number
 Inv-loop-number g l =
     let m = g .W·Measure .ops in
     let check = check-rules m (g .G·Guide .floor (l .guide)) (g .G·Guide .rest (l .guide)) in
-    check (weighted m (drop (l .number) (l .slot-items))) (l .number) ≡ check (weighted m (l .slot-items)) 0
+    check (weighted m (drop (l .number) (l .slots))) (l .number) ≡ check (weighted m (l .slots)) 0

@@ -1,5 +1,5 @@
 use mathlib.Core.Bool.{true, false, _&&_}
-use mathlib.Core.Path.{_≡_, refl, sym, ap, _∙_}
+use mathlib.Core.Path.{_≡_, sym, ap, _∙_}
 use Prim.Native.Nat.{_+_, _<_}
 use native.Mathlib.Omega.{arith}
 use lib.ListN.{length}
@@ -9,7 +9,7 @@ use Rattle.derivation.specs.Fit.{all-below, floor-kept, rest-kept}
 use Rattle.sheet.specs.declared.slot.Slot.the-variants.{Full}
 use Rattle.sheet.specs.Rules.{body-of}
 use Rattle.guide.specs.Weighted.{weigh}
-use Rattle.guide.proofs.Fitting.{all-more, all-fails, and-true, beside-is, whole-is}
+use Rattle.guide.proofs.Fitting.{all-more, all-fails, and-true, joining-is, beside-is}
 use Rattle.guide.proofs.Joining.{joined-more}
 use Rattle.guide.proofs.fit.keeps.Needs as need
 
@@ -43,7 +43,7 @@ returns g c =
     let a = weigh m (Full (c .args .rule .now)) in
     let kept = rest-kept m floor (g .G·Guide .rest (c .args .guide .now)) a in
     let whole = take-all (c .loop-place .place) (c .body-body .result .now) (c .loop-place-test .left) in
-    let made = whole-is (g .W·Measure·met .lawful) floor (c .args .rule .now) in
+    let made = joining-is (g .W·Measure·met .lawful) floor (c .args .rule .now) (body-of (c .args .rule .now)) in
     let last : c .no-heavier-2 .result ≡ floor-kept m floor a = cc (c .loop-place .inv .0) in
     let e = ap length (c .body-body .ensures) in
     let same : c .loop-place .place ≡ length (body-of (c .args .rule .now)) = omega arith in

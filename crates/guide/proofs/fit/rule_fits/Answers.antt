@@ -1,4 +1,4 @@
-use mathlib.Core.Path.{_≡_, refl, sym, ap, _∙_}
+use mathlib.Core.Path.{sym, _∙_}
 use Rattle.guide.proofs.Fitting.{struck-fits, standing-fits}
 use Rattle.guide.proofs.fit.rule_fits.Needs as need
 
