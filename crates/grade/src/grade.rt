@@ -28,7 +28,7 @@ pub struct Grade<W> {
 }
 
 // Searches the sheet for the target with the blank guide.
-pub fn grade_sheet<W: Measure + Clone>(
+pub(crate) fn grade_sheet<W: Measure + Clone>(
     heap: Global,
     sheet: &Passed,
     target: u16,

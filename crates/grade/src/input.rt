@@ -22,7 +22,7 @@ fn check_length(len: usize) -> Result<(), Refusal>
 }
 
 // Reads one byte more than the limit at most.
-pub fn read_input(rt: &LibcRuntime) -> Result<Vec<u8>, Failure> {
+pub(crate) fn read_input(rt: &LibcRuntime) -> Result<Vec<u8>, Failure> {
     let mut bytes = Vec::new(rt.alloc());
     let mut input = rt.stdin().take(INPUT_LIMIT as u64 + 1);
     input.read_to_end(&mut bytes)?;

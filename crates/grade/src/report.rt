@@ -30,7 +30,7 @@ pub struct Report {
 }
 
 // Reads the file into a new sheet, and grades that under each measure.
-pub fn grade_file(heap: Global, bytes: &[u8]) -> Result<Report, Failure> {
+pub(crate) fn grade_file(heap: Global, bytes: &[u8]) -> Result<Report, Failure> {
     let mut slots = vec![in heap; Slot::Empty; RULES]?;
     let header = file::read(bytes, &mut slots)?;
     let lent: &[Slot] = &slots;

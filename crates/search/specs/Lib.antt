@@ -5,3 +5,4 @@ pub mod Shown
 pub mod Unwound
 pub mod Answered
 pub mod Left
+pub mod Promise

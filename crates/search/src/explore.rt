@@ -29,7 +29,7 @@ fn clear<W: Measure>(weights: &mut [W])
 }
 
 // Runs the search from its start, and answers the counts; a survey has no target.
-pub fn explore<W: Measure, G: Guide<W>>(
+pub(crate) fn explore<W: Measure, G: Guide<W>>(
     slots: &[Slot],
     target: Option<u16>,
     guide: &G,

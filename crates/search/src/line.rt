@@ -67,7 +67,7 @@ fn unwind(slots: &[Slot], order: &[u16], target: u16, needed: &mut [u16], line: 
 }
 
 // Writes the line, and answers its length.
-pub fn draw(
+pub(crate) fn draw(
     slots: &[Slot],
     order: &[u16],
     target: u16,

@@ -39,7 +39,7 @@ fn is_target(target: Option<u16>, fact: u16) -> bool
 }
 
 // Writes one element of a column.
-pub fn store<W: Copy>(column: &mut [W], i: usize, value: W)
+pub(crate) fn store<W: Copy>(column: &mut [W], i: usize, value: W)
     requires { ⌜ i < length (now column) ⌝ }
     ensures { λ _. ⌜ now (column .exit) ≡ set (now (column .entry)) i value ⌝ }
 {
@@ -47,7 +47,7 @@ pub fn store<W: Copy>(column: &mut [W], i: usize, value: W)
 }
 
 // Takes entries until the target is closed; out of reach where the queue runs empty first.
-pub fn run<W: Measure, G: Guide<W>>(
+pub(crate) fn run<W: Measure, G: Guide<W>>(
     slots: &[Slot],
     target: Option<u16>,
     guide: &G,

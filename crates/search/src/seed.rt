@@ -47,7 +47,7 @@ fn seed_rule<W: Measure, G: Guide<W>>(
 }
 
 // Puts in the first entries, and answers how many there are.
-pub fn seed<W: Measure, G: Guide<W>>(
+pub(crate) fn seed<W: Measure, G: Guide<W>>(
     slots: &[Slot],
     missing: &[u16],
     weights: &[W],

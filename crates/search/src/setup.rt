@@ -22,7 +22,7 @@ fn arity_of(rule: &Rule) -> u16
 }
 
 // Counts the open places of each rule.
-pub fn count_missing(slots: &[Slot], missing: &mut [u16])
+pub(crate) fn count_missing(slots: &[Slot], missing: &mut [u16])
     requires { ⌜ length (now slots) ≡ length (now missing) ⌝ }
     ensures { λ _. ⌜ ((k : ℕ) → k < length (now (slots .entry)) → getD (now (missing .exit)) k 0 ≡ arity (rule-at (now (slots .entry)) k)) ⌝ }
 {
@@ -52,7 +52,7 @@ fn chain_rule(slots: &[Slot], number: usize, heads: &mut [u16], next: &mut [u16]
 }
 
 // Chains to each fact the places of standing rules that name it.
-pub fn chain(slots: &[Slot], heads: &mut [u16], next: &mut [u16])
+pub(crate) fn chain(slots: &[Slot], heads: &mut [u16], next: &mut [u16])
     requires known { ⌜ (length (now slots) ≤ 16000) × (4 * length (now slots) ≤ length (now next)) ⌝ }
     requires within { ⌜ passes (length (now heads)) (now slots) ≡ true ⌝ }
     ensures { λ _. ⌜ Chained (now (slots .entry)) (now (heads .exit)) (now (next .exit)) (4 * length (now (slots .entry))) ⌝ }

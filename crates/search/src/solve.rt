@@ -52,7 +52,7 @@ fn finish<W: Measure>(
 }
 
 // Searches columns of just the lengths asked for.
-pub fn solve<W: Measure, G: Guide<W>>(
+pub(crate) fn solve<W: Measure, G: Guide<W>>(
     slots: &[Slot],
     target: u16,
     guide: &G,

@@ -50,7 +50,7 @@ fn visit<W: Measure, G: Guide<W>>(
 }
 
 // Visits each place in the chain of a fact that was closed, and answers how many entries there are.
-pub fn walk<W: Measure, G: Guide<W>>(
+pub(crate) fn walk<W: Measure, G: Guide<W>>(
     slots: &[Slot],
     fact: u16,
     heads: &[u16],

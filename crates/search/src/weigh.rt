@@ -22,7 +22,7 @@ fn weight_of<W: Measure>(rule: &Rule, weights: &[W]) -> W
 }
 
 // The entry of a rule: its weight, and that joined with the rest of its head.
-pub fn entry_of<W: Measure, G: Guide<W>>(
+pub(crate) fn entry_of<W: Measure, G: Guide<W>>(
     rule: &Rule,
     number: u16,
     weights: &[W],
