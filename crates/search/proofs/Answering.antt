@@ -25,7 +25,7 @@ use Rattle.derivation.specs.Line.{unwound, line}
 use Rattle.guide.specs.Weighted.{weighted}
 use Rattle.search.specs.Unwound.{unwound-rules, drawn-line}
 use Rattle.search.specs.declared.columns.Found.{Found}
-use Rattle.search.specs.declared.run.Counts.{Counts}
+use Rattle.search.specs.declared.columns.Counts.{Counts}
 use Rattle.search.specs.Shown.{Shows, run-answer}
 use Rattle.search.specs.Answered.{column, told-found}
 use Rattle.search.proofs.Matching.{body-is}

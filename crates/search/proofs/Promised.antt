@@ -15,7 +15,11 @@ use Rattle.std.proofs.shelf.Lists.{getD-append-left, take-at}
 use Rattle.std.proofs.shelf.Tests.{cases-bool, cases-lt, both-ways, lt-ltb, le-ltb, cond-true, not-true}
 use Rattle.measure.specs.Ops.{Ops, Laws}
 use Rattle.sheet.specs.declared.slot.Slot.{Slot}
-use Rattle.sheet.specs.Refusals.{Answer, accepted, refused, Told, after}
+use Rattle.std.specs.Results.{isOk}
+use Rattle.std.specs.declared.result.Result.{Result}
+use Rattle.std.specs.declared.result.Result.the-variants.{Ok, Err}
+use Rattle.sheet.specs.declared.refusal.Refusal.{Refusal}
+use Rattle.sheet.specs.Refusals.{Answer, accepted, refused, Told, after, answer as answer-of}
 use Rattle.sheet.specs.Slots.{passes, rule-at}
 use Rattle.sheet.proofs.Within.{passes-at, within-parts}
 use Rattle.derivation.specs.Rules as theory
@@ -28,6 +32,7 @@ use Rattle.derivation.proofs.Checked.{decided-at}
 use Rattle.derivation.proofs.Counts.{count-same}
 use Rattle.derivation.proofs.Explored.{exact-at}
 use Rattle.derivation.proofs.Invariant.{standing-under}
+use Rattle.derivation.proofs.Surveys.{surveyed-at}
 use Rattle.guide.specs.Fit.{fit-answer}
 use Rattle.guide.specs.Weighted.{weighted}
 use Rattle.search.specs.declared.columns.Found.{Found}
@@ -35,6 +40,7 @@ use Rattle.search.specs.Shown.{outcome}
 use Rattle.search.specs.Answered.{column, told-found, checked, end, end-line, search-answer, ran}
 use Rattle.search.specs.Left.{weights-left, reasons-left, line-left}
 use Rattle.search.specs.Promise.{closed-in, Kept, Promise}
+use Rattle.search.specs.Surveyed.{explored, Floors}
 use Rattle.search.proofs.Matching.{head-is, struck-is, length-weighted}
 
 column-at : {A : Type 0} (f : ℕ → A) (n k : ℕ) (d : A) (xs : List A) → k < n → getD (column f n ++ xs) k d ≡ f k
@@ -171,3 +177,22 @@ module _ {W : Type 0} {m : Ops W} (laws : Laws m) (floor rest : ℕ → W) (xs :
         (li ∙ ap (λ z. after z (λ _. end-line m rest xs target ++ drop (length (end-line m rest xs target)) line₀) line₀) q)
         (t .0) (t .1) (t .2);
   }
+
+-- What a survey leaves, in the words of derivations.
+module _ {W : Type 0} {m : Ops W} (laws : Laws m) (xs : List Slot) (facts : ℕ) (weights weights₀ : List W)
+    (is : weights ≡ column (weight-of m (explored m xs)) facts ++ drop facts weights₀) where
+  weight-here : (k : ℕ) → k < facts → getD weights k (m .heaviest) ≡ weight-of m (explored m xs) k
+  weight-here k h = ap (λ l. getD l k (m .heaviest)) is ∙ column-at (weight-of m (explored m xs)) facts k (m .heaviest) (drop facts weights₀) h
+
+  pub floors : Floors m xs facts weights
+  unfolding outcome
+  floors = record {
+    lightest = λ k h d. subst (Lightest m (weighted m xs) k) (sym (weight-here k h)) (surveyed-at laws (weighted m xs) k .lightest d);
+    absent = λ k h n. weight-here k h ∙ surveyed-at laws (weighted m xs) k .absent n;
+  }
+
+-- an accepted survey had columns that were long enough
+pub survey-accepted : {A : Type 0} (r : Result A Refusal) (x : A) (long : Bool) → answer-of r ≡ cond long (accepted x) (refused 11 []) → isOk r ≡ true → long ≡ true
+survey-accepted (Ok y) x true e h = refl
+survey-accepted (Ok y) x false e h = let z : _≡_ {A = ℕ} 0 1 = cc in absurd (omega arith)
+survey-accepted (Err y) x long e h = absurd (both-ways _ refl h)

@@ -50,8 +50,8 @@ unfit-number n vs fits target e = let z : _≡_ {A = ℕ} 0 1 = cc in absurd (om
 unfit-number n vs target-fails target e = let z : n ≡ 13 = cc in ne-eqb n 14 (λ q. omega (arith, z, q))
 unfit-number n vs (rule-fails r) target e = let z : n ≡ 13 = cc in ne-eqb n 14 (λ q. omega (arith, z, q))
 
-pub still : {X W : Type 0} (a : Answer (Found W)) (n : ℕ) (xs : List X) → Scratch a n xs xs
-still a n xs = record { long = refl; beyond = refl; kept = λ _. refl }
+pub still : {X : Type 0} (b : Bool) (n : ℕ) (xs : List X) → Scratch b n xs xs
+still b n xs = record { long = refl; beyond = refl; kept = λ _. refl }
 
 -- The columns where the search ran.
 pub told-ran : {W : Type 0} (a : Answer (Found W)) (l : List ℕ) (s : State W) (o : Option W) → a ≡ told-found l s o → ran a ≡ true
@@ -65,9 +65,9 @@ column-left f b facts n k part xs e p q h =
     ap (λ x. x ++ drop (n - 0) xs) (h ∙ ap (column f) q) ∙ ap (λ (i : ℕ). column f facts ++ drop i xs) z ∙ sym (cond-true b _ _ e)
 
 -- a part of a column, given back at another value
-pub scratch-left : {X W : Type 0} (a : Answer (Found W)) (n k : ℕ) (part xs : List X) → ran a ≡ true → k ≡ n → n ≤ length xs → length part ≡ length (take (k - 0) xs)
-    → Scratch a n xs (part ++ drop (k - 0) xs)
-scratch-left a n k part xs r e h l =
+pub scratch-left : {X : Type 0} (b : Bool) (n k : ℕ) (part xs : List X) → b ≡ true → k ≡ n → n ≤ length xs → length part ≡ length (take (k - 0) xs)
+    → Scratch b n xs (part ++ drop (k - 0) xs)
+scratch-left b n k part xs r e h l =
     let z : k - 0 ≡ n = omega arith in
     let p : length part ≡ n = l ∙ ap (λ (i : ℕ). length (take i xs)) z ∙ length-take-le n xs h in
     record {

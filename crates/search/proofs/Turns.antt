@@ -21,7 +21,7 @@ use Rattle.sheet.specs.declared.refusal.Refusal.{Refusal}
 use Rattle.sheet.specs.declared.refusal.Refusal.the-variants.{OutOfReach}
 use Rattle.sheet.specs.Slots.{rule-at, passes}
 use Rattle.derivation.specs.Search.{State, is-closed, no-reason, reached, closed-count, taken-count}
-use Rattle.search.specs.declared.run.Counts.{Counts}
+use Rattle.search.specs.declared.columns.Counts.{Counts}
 use Rattle.search.specs.Shown.{Shows, wanted, outcome, run-answer}
 use Rattle.search.specs.Chains.{uses}
 use Rattle.search.specs.Waiting.{unready, Ready}

@@ -24,8 +24,9 @@ module _ {W : Type 0} (m : Ops W) (rest : ℕ → W) (xs : List Slot) (facts tar
   abbrev pub line-left : List ℕ → List ℕ
   line-left l = after a (λ _. end-line m rest xs target ++ drop (length (end-line m rest xs target)) l) l
 
--- The queue or the working column: as long as it was, kept beyond the length asked for, and kept whole where the search did not run.
-pub record Scratch {X W : Type 0} (a : Answer (Found W)) (n : ℕ) (before left : List X) : Type 0 where
+-- The queue or the working column, and whether a search ran: as long as it was, kept beyond the length asked for,
+-- and kept whole where none ran.
+pub record Scratch {X : Type 0} (ran-it : Bool) (n : ℕ) (before left : List X) : Type 0 where
   pub long : length left ≡ length before
   pub beyond : drop n left ≡ drop n before
-  pub kept : ran a ≡ false → left ≡ before
+  pub kept : ran-it ≡ false → left ≡ before

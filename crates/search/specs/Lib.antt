@@ -6,3 +6,4 @@ pub mod Unwound
 pub mod Answered
 pub mod Left
 pub mod Promise
+pub mod Surveyed

@@ -19,7 +19,7 @@ use Rattle.sheet.specs.Rules.{body-of}
 use Rattle.sheet.specs.Slots.{rule-at}
 use Rattle.derivation.specs.Search.{Closed, State, is-closed, weight-in, reason-in, no-reason, reached, final, closed-count, taken-count}
 use Rattle.guide.specs.Weighted.{weighted}
-use Rattle.search.specs.declared.run.Counts.{Counts}
+use Rattle.search.specs.declared.columns.Counts.{Counts}
 
 -- How many places of a body name the fact f, and how many are not closed.
 abbrev pub occurs : ℕ → List ℕ → ℕ

@@ -28,3 +28,10 @@ pub struct Found<W> {
     // the length of the line
     pub line: u16,
 }
+
+// The numbers of facts closed and of entries taken.
+#[derive(Clone, Copy)]
+pub struct Counts {
+    pub closed: u16,
+    pub taken: u16,
+}

@@ -6,7 +6,7 @@ ghost use lib.ListN.{length, replicate};
 ghost use Rattle.derivation.specs.Search.{closed-count, taken-count};
 ghost use Rattle.search.specs.Shown.{Shows, outcome, run-answer};
 ghost use Rattle.sheet.specs.Slots.{passes};
-use crate::run::Counts;
+use crate::columns::Counts;
 use crate::run::NO_RULE;
 use crate::run::run;
 use crate::run::store;

@@ -2,7 +2,7 @@
 ghost use Prim.Native.Nat.{_≤_};
 ghost use lib.ListN.{length};
 ghost use mathlib.Core.Path.{_≡_};
-ghost use Rattle.search.specs.Answered.{work-length, long-enough, search-answer};
+ghost use Rattle.search.specs.Answered.{work-length, long-enough, search-answer, ran};
 ghost use Rattle.search.specs.Left.{weights-left, reasons-left, line-left, Scratch};
 ghost use Rattle.search.specs.Promise.{Promise};
 ghost use Rattle.sheet.specs.Refusals.{answer};
@@ -50,8 +50,8 @@ fn search_in<W: Measure, G: Guide<W>>(
     ensures weighs { λ r. ⌜ now (weights .exit) ≡ weights-left (W·Measure .ops) (G·Guide .rest (now (guide .entry))) (now (now (sheet .entry) .slots)) (now (sheet .entry) .facts) target (answer r) (now (weights .entry)) ⌝ }
     ensures gives { λ r. ⌜ now (reasons .exit) ≡ reasons-left (W·Measure .ops) (G·Guide .rest (now (guide .entry))) (now (now (sheet .entry) .slots)) (now (sheet .entry) .facts) target (answer r) (now (reasons .entry)) ⌝ }
     ensures draws { λ r. ⌜ now (line .exit) ≡ line-left (W·Measure .ops) (G·Guide .rest (now (guide .entry))) (now (now (sheet .entry) .slots)) (now (sheet .entry) .facts) target (answer r) (now (line .entry)) ⌝ }
-    ensures queues { λ r. ⌜ Scratch (answer r) (length (now (now (sheet .entry) .slots))) (now (queue .entry)) (now (queue .exit)) ⌝ }
-    ensures works { λ r. ⌜ Scratch (answer r) (work-length (now (sheet .entry) .facts) (length (now (now (sheet .entry) .slots)))) (now (work .entry)) (now (work .exit)) ⌝ }
+    ensures queues { λ r. ⌜ Scratch (ran (answer r)) (length (now (now (sheet .entry) .slots))) (now (queue .entry)) (now (queue .exit)) ⌝ }
+    ensures works { λ r. ⌜ Scratch (ran (answer r)) (work-length (now (sheet .entry) .facts) (length (now (now (sheet .entry) .slots)))) (now (work .entry)) (now (work .exit)) ⌝ }
 {
     let slots = sheet.slots();
     let facts = sheet.facts() as usize;
@@ -94,8 +94,8 @@ pub fn search<W: Measure, G: Guide<W>>(
     ensures weighs { λ r. ⌜ now (columns .exit .0) ≡ weights-left (W·Measure .ops) (G·Guide .rest (now (guide .entry))) (now (now (sheet .entry) .slots)) (now (sheet .entry) .facts) target (answer r) (now (columns .entry .weights)) ⌝ }
     ensures gives { λ r. ⌜ now (columns .exit .1 .0) ≡ reasons-left (W·Measure .ops) (G·Guide .rest (now (guide .entry))) (now (now (sheet .entry) .slots)) (now (sheet .entry) .facts) target (answer r) (now (columns .entry .reasons)) ⌝ }
     ensures draws { λ r. ⌜ now (columns .exit .1 .1 .0) ≡ line-left (W·Measure .ops) (G·Guide .rest (now (guide .entry))) (now (now (sheet .entry) .slots)) (now (sheet .entry) .facts) target (answer r) (now (columns .entry .line)) ⌝ }
-    ensures queues { λ r. ⌜ Scratch (answer r) (length (now (now (sheet .entry) .slots))) (now (columns .entry .queue)) (now (columns .exit .1 .1 .1 .0)) ⌝ }
-    ensures works { λ r. ⌜ Scratch (answer r) (work-length (now (sheet .entry) .facts) (length (now (now (sheet .entry) .slots)))) (now (columns .entry .work)) (now (columns .exit .1 .1 .1 .1 .0)) ⌝ }
+    ensures queues { λ r. ⌜ Scratch (ran (answer r)) (length (now (now (sheet .entry) .slots))) (now (columns .entry .queue)) (now (columns .exit .1 .1 .1 .0)) ⌝ }
+    ensures works { λ r. ⌜ Scratch (ran (answer r)) (work-length (now (sheet .entry) .facts) (length (now (now (sheet .entry) .slots)))) (now (columns .entry .work)) (now (columns .exit .1 .1 .1 .1 .0)) ⌝ }
     ensures promises { λ r. ⌜ Promise (W·Measure .ops) (G·Guide .rest (now (guide .entry))) (now (now (sheet .entry) .slots)) (now (sheet .entry) .facts) target (answer r) (now (columns .exit .0)) (now (columns .exit .1 .0)) (now (columns .exit .1 .1 .0)) ⌝ }
 {
     let Columns {

@@ -7,5 +7,6 @@ mod run;
 mod seed;
 mod setup;
 mod solve;
+pub mod survey;
 mod visit;
 mod weigh;

@@ -9,6 +9,7 @@ ghost use Rattle.search.specs.Chains.{Chained};
 ghost use Rattle.search.specs.Waiting.{unready, Ready};
 ghost use Rattle.search.specs.Shown.{Shows, Running, wanted, outcome, run-answer};
 ghost use Rattle.sheet.specs.Slots.{passes};
+use crate::columns::Counts;
 use crate::visit::walk;
 use guide::Guide;
 use measure::Measure;
@@ -20,13 +21,6 @@ use sheet::slot::Slot;
 
 // The reason of a fact that is not closed.
 pub const NO_RULE: u16 = 65_535;
-
-// The numbers of facts closed and of entries taken.
-#[derive(Clone, Copy)]
-pub struct Counts {
-    pub closed: u16,
-    pub taken: u16,
-}
 
 // Whether the fact is the target; a survey has none.
 fn is_target(target: Option<u16>, fact: u16) -> bool
