@@ -1,4 +1,4 @@
--- Numbers and fields: 1 to 3 bytes of seven bits, lowest group first, the high bit set on all but the last byte.
+-- Numbers and fields. A number has up to 3 bytes, each with seven of its bits, the lowest bits first; the high bit says that one more follows.
 use mathlib.Core.Bool.{cond, _||_}
 use mathlib.Core.List.{List, [], _∷_}
 use Prim.Native.Nat.{ℕ, _+_, _-_, _*_}

@@ -1,4 +1,4 @@
-// Numbers: 1 to 3 bytes of seven bits, lowest group first.
+// Numbers: up to 3 bytes, each with seven bits of the number, the lowest bits first.
 ghost use mathlib.Core.Path.{_≡_};
 ghost use Rattle.file.specs.Faults.{seen, reason-of};
 ghost use Rattle.file.specs.Number.{number, short};

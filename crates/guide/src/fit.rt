@@ -30,8 +30,8 @@ fn with_floors<W: Measure, G: Guide<W>>(start: W, facts: &[u16], guide: &G) -> W
 }
 
 // Whether a rule keeps both conditions:
-// the rest of the fact at each place is no heavier than the effort joined with the floors at the other places and the rest of the head,
-// and the floor of the head is no heavier than the effort joined with the floors of the body.
+// it undercuts neither the rest of a fact in its body, by its effort, the other floors and the rest of its head,
+// nor the floor of its head, by its effort and the floors of its body.
 fn keeps<W: Measure, G: Guide<W>>(rule: &Rule, guide: &G) -> bool
     ensures { λ r. ⌜ r ≡ (floor-kept (W·Measure .ops) (G·Guide .floor (now (guide .entry))) (weigh (W·Measure .ops) (Full (now (rule .entry)))) && all-below (length (body-of (now (rule .entry)))) (rest-kept (W·Measure .ops) (G·Guide .floor (now (guide .entry))) (G·Guide .rest (now (guide .entry))) (weigh (W·Measure .ops) (Full (now (rule .entry)))))) ⌝ }
 {

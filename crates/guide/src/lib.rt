@@ -7,7 +7,7 @@ ghost use mathlib.Core.Path.{_≡_};
 ghost use Prim.Native.Nat.{ℕ};
 use measure::Measure;
 
-// A guide of the measure W. It means two functions from fact numbers to weights:
+// A guide of the measure W gives each fact number two weights:
 // floor, which is to be no heavier than any derivation of the fact,
 // and rest, which is to be no heavier than what any derivation of the target adds around the fact.
 pub trait Guide<W: Measure> {

@@ -21,15 +21,15 @@ pub record Ops (W : Type 0) : Type 0 where
 
 -- The laws, over all records, in range or not.
 pub record Laws {W : Type 0} (m : Ops W) : Type 0 where
-  -- the order is total, transitive, and weights of which neither is heavier are equal
+  -- any two records compare, comparisons chain, and records that tie count as one weight
   pub total : (a b : W) → (m .leb a b ≡ true) ⊎ (m .leb b a ≡ true)
   pub trans : (a b c : W) → m .leb a b ≡ true → m .leb b c ≡ true → m .leb a c ≡ true
   pub antisym : (a b : W) → m .leb a b ≡ true → m .leb b a ≡ true → m .norm a ≡ m .norm b
-  -- join is associative and commutative, and nothing is neutral
+  -- joins may be regrouped and swapped, and joining nothing changes nothing
   pub assoc : (a b c : W) → m .join (m .join a b) c ≡ m .join a (m .join b c)
   pub comm : (a b : W) → m .join a b ≡ m .join b a
   pub neutral : (a : W) → m .join (m .nothing) a ≡ m .norm a
-  -- nothing is the lightest weight, and no weight is heavier than heaviest
+  -- no weight is lighter than nothing or heavier than heaviest
   pub lightest : (a : W) → m .leb (m .nothing) a ≡ true
   pub most : (a : W) → m .leb a (m .heaviest) ≡ true
   -- joining the same weight keeps the order

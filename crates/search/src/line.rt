@@ -1,4 +1,4 @@
-// The line: the rules of the closed facts that the target needs, in closing order.
+// The line: what the target needs of the rules that closed a fact, in their order.
 ghost use mathlib.Core.Bool.{true, false, cond, _&&_};
 ghost use mathlib.Core.List.{[], _∷_, _++_, reverse};
 ghost use mathlib.Core.Path.{_≡_};

@@ -47,14 +47,14 @@ abbrev pub standing-answer : {A : Type 0} → List Slot → ℕ → Answer A →
 standing-answer xs n rest =
     cond (ltb n (count xs)) (cond (rule-at xs n .struck) (refused 3 []) rest) (refused 2 [])
 
--- Repricing replaces a cost.
+-- Repricing gives a rule another cost.
 abbrev pub reprice-answer : List Slot → ℕ → ℕ → Answer (Unit {0})
 reprice-answer xs n c = standing-answer xs n (cost-answer c)
 
 abbrev pub reprice-slots : List Slot → ℕ → ℕ → List Slot
 reprice-slots xs n c = after (reprice-answer xs n c) (λ _. set xs n (Full (repriced (rule-at xs n) c))) xs
 
--- Striking marks a rule for good.
+-- Striking puts a rule out of use.
 abbrev pub strike-answer : List Slot → ℕ → Answer (Unit {0})
 strike-answer xs n = standing-answer xs n (accepted tt)
 

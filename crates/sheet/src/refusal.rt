@@ -26,7 +26,7 @@ pub enum Refusal {
     Cost,
     // fewer free slots than rules to be entered
     Full,
-    // a fact count of 0 or over 4,096
+    // a fact count that is 0 or above 4,096
     Facts,
     // a standing rule, the lowest such, names a fact not below the fact count
     Stray(u16),
@@ -40,7 +40,7 @@ pub enum Refusal {
     Unfit(Misfit),
     // no derivation of the target: the numbers of facts closed and of entries taken
     OutOfReach(u16, u16),
-    // bytes end inside a number or before the last field
+    // the bytes stop short of the last field's end
     Cut,
     // a number not in its form, or too large for its field
     Number,
