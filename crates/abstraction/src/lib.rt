@@ -1,0 +1,2 @@
+// Sheets over groups of facts: what guides are made from.
+pub mod fold;
