@@ -54,10 +54,6 @@ module _ (f : Slot → Slot) (xs ys zs : List Slot) (i : ℕ) (e : zs ≡ paste 
       ∙ paste-all ys 0 (map f xs) i (omega (arith, length-map xs f))
       ∙ ap (λ (k : ℕ). take 0 ys ++ (map f xs ++ drop k ys)) (omega arith)
 
--- a body has at most 4 facts
-pub body-short : (r : Rule) → length (body-of r) ≤ 4
-body-short r = omega (arith, length-take (min (r .arity) 4) (r .body))
-
 empties-bound : (xs : List Slot) → empties xs ≤ length xs
 empties-bound [] = omega arith
 empties-bound (Empty ∷ xs) = let h = empties-bound xs in omega arith
@@ -66,17 +62,3 @@ empties-bound (Full r ∷ xs) = let h = empties-bound xs in omega arith
 pub free-bound : (xs : List Slot) → free xs ≤ length xs
 unfolding free
 free-bound xs = omega (arith, empties-bound (used xs), length-take 16000 xs)
-
-module _ (xs : List Slot) (facts : ℕ) (groups : List ℕ) (n : ℕ) (second : List Slot) where
-  pub fold-judged : count second ≤ 0 → length xs ≤ free second → facts ≤ length groups
-      → fold-answer xs facts groups n second ≡ map-answer n 0 (take facts groups)
-  fold-judged u v l =
-      cond-false (ltb 0 (count second)) _ _ (le-ltb 0 (count second) u)
-      ∙ cond-false (ltb (free second) (length xs)) _ _ (le-ltb (free second) (length xs) v)
-      ∙ cond-false (ltb (length groups) facts) _ _ (le-ltb (length groups) facts l)
-
-  pub slots-kept : (k : ℕ) → (vs : _) → fold-answer xs facts groups n second ≡ refused k vs → fold-slots xs facts groups n second ≡ second
-  slots-kept k vs e = ap (λ a. after a (λ _. folded (group-of groups) xs second) second) e
-
-  pub slots-written : fold-answer xs facts groups n second ≡ accepted tt → fold-slots xs facts groups n second ≡ folded (group-of groups) xs second
-  slots-written e = ap (λ a. after a (λ _. folded (group-of groups) xs second) second) e

@@ -1,1 +1,3 @@
 pub mod Folding
+pub mod Reading
+pub mod Promised

@@ -5,6 +5,7 @@ ghost use mathlib.Core.Path.{_≡_};
 ghost use Prim.Native.Nat.{_≤_};
 ghost use lib.ListN.{length};
 ghost use Rattle.abstraction.specs.Fold.{group-of, folded, map-answer, fold-answer, fold-slots};
+ghost use Rattle.abstraction.specs.Folds.{Folds};
 ghost use Rattle.sheet.specs.Refusals.{answer};
 use rule::fold_slot;
 use sheet::passed::Passed;
@@ -36,24 +37,38 @@ fn write(slots: &[Slot], map: &[u16], second: &mut [Slot])
     }
 }
 
-// Folds a passed sheet by a map, which gives each fact one of so many groups, into a second sheet that has no rules entered.
-// A refusal changes nothing.
-pub fn fold(sheet: &Passed, map: &[u16], groups: u16, second: &mut [Slot]) -> Result<(), Refusal>
-    ensures answered { λ r. ⌜ answer r ≡ fold-answer (now (now (sheet .entry) .slots)) (now (sheet .entry) .facts) (now (map .entry)) groups (now (second .entry)) ⌝ }
-    ensures left { λ _. ⌜ now (second .exit) ≡ fold-slots (now (now (sheet .entry) .slots)) (now (sheet .entry) .facts) (now (map .entry)) groups (now (second .entry)) ⌝ }
+// The tests of a folding: an unused second sheet with room for the rules, and one of the groups for each fact.
+fn check(
+    slots: &[Slot],
+    facts: u16,
+    map: &[u16],
+    groups: u16,
+    second: &[Slot],
+) -> Result<(), Refusal>
+    ensures { λ r. ⌜ answer r ≡ fold-answer (now (slots .entry)) facts (now (map .entry)) groups (now (second .entry)) ⌝ }
 {
-    let slots = sheet.slots();
-    let facts = sheet.facts() as usize;
     if entered(second) > 0 {
         return Err(Refusal::Used);
     }
     if vacant(second) < slots.len() {
         return Err(Refusal::Full);
     }
+    let facts = facts as usize;
     if map.len() < facts {
         return Err(Refusal::Short);
     }
-    check_groups(&map[0..facts], groups)?;
+    check_groups(&map[0..facts], groups)
+}
+
+// Folds a passed sheet by a map, which gives each fact one of so many groups, into a second sheet that has no rules entered.
+// A refusal changes nothing.
+pub fn fold(sheet: &Passed, map: &[u16], groups: u16, second: &mut [Slot]) -> Result<(), Refusal>
+    ensures answered { λ r. ⌜ answer r ≡ fold-answer (now (now (sheet .entry) .slots)) (now (sheet .entry) .facts) (now (map .entry)) groups (now (second .entry)) ⌝ }
+    ensures left { λ _. ⌜ now (second .exit) ≡ fold-slots (now (now (sheet .entry) .slots)) (now (sheet .entry) .facts) (now (map .entry)) groups (now (second .entry)) ⌝ }
+    ensures folds { λ r. ⌜ Folds (now (now (sheet .entry) .slots)) (now (sheet .entry) .facts) (now (map .entry)) groups (now (second .entry)) (now (second .exit)) (answer r) ⌝ }
+{
+    let slots = sheet.slots();
+    check(slots, sheet.facts(), map, groups, second)?;
     write(slots, map, second);
     Ok(())
 }
