@@ -15,6 +15,7 @@ use Rattle.sheet.specs.Slots.{sheet, count, free, passes}
 use Rattle.abstraction.specs.Fold.{group-of, folded, map-answer, fold-answer, fold-slots}
 use Rattle.abstraction.specs.Folds.{fold-inference, Folds}
 use Rattle.abstraction.proofs.Reading.{sheet-begins, sheet-alone}
+use Rattle.abstraction.proofs.Names.{names-groups}
 
 -- the groups that were gone through
 pub record Lowest (n k f : ℕ) (xs : List ℕ) : Type 0 where
@@ -102,13 +103,14 @@ module _ (xs : List Slot) (facts : ℕ) (groups : List ℕ) (n : ℕ) (second : 
       λ k h. let b : k < facts = omega arith in let g = w .lower k (omega arith) in rw (getD-take facts groups k 0 b) at g in
       (omega arith, rw same at outside, lower)
 
-  pub folds-by : passes facts xs ≡ true → length xs ≤ 16000 → (now : List Slot) (a : Answer (Unit {0}))
-      → a ≡ fold-answer xs facts groups n second → now ≡ fold-slots xs facts groups n second → Folds xs facts groups n second now a
-  folds-by h few now a e left =
-      let written : a ≡ accepted tt → now ≡ folded (group-of groups) xs second = λ y. left ∙ slots-are (accepted tt) (sym e ∙ y) in
+  pub folds-by : passes facts xs ≡ true → length xs ≤ 16000 → (out : List Slot) (a : Answer (Unit {0}))
+      → a ≡ fold-answer xs facts groups n second → out ≡ fold-slots xs facts groups n second → Folds xs facts groups n second out a
+  folds-by h few out a e left =
+      let written : a ≡ accepted tt → out ≡ folded (group-of groups) xs second = λ y. left ∙ slots-are (accepted tt) (sym e ∙ y) in
       record {
         rules = λ y. rw (written y) (sheet-begins (group-of groups) facts xs second h few);
         alone = λ y o. rw (written y) (sheet-alone (group-of groups) facts xs second h few o);
+        names = λ y. rw (written y) (names-groups (group-of groups) facts n (each-grouped (sym e ∙ y)) xs second h);
         grouped = λ y. each-grouped (sym e ∙ y);
         lowest = λ f y. fact-told f (sym e ∙ y);
         kept = λ k vs y. left ∙ slots-are (refused k vs) (sym e ∙ y);

@@ -26,12 +26,12 @@ made-body b h =
     let e : min (min (length b) 4) 4 ≡ length b = omega arith in
     rw e (take-take (length b) 4 (b ++ replicate 4 0) h ∙ take-at b (replicate 4 0) (length b) refl)
 
-through : {A : Type 0} (F : Record → A) (b : Bool) (x y : Record) (z : A) → F y ≡ z → F (cond b x y) ≡ cond b (F x) z
+pub through : {A : Type 0} (F : Record → A) (b : Bool) (x y : Record) (z : A) → F y ≡ z → F (cond b x y) ≡ cond b (F x) z
 through F true x y z e = refl
 through F false x y z e = e
 
 module _ (group : ℕ → ℕ) where
-  folded-body : (r : Record) → body-of (made (group (r .head)) (map group (body-of r)) (r .cost)) ≡ map group (body-of r)
+  pub folded-body : (r : Record) → body-of (made (group (r .head)) (map group (body-of r)) (r .cost)) ≡ map group (body-of r)
   folded-body r =
       made-body (map group (body-of r)) (omega (arith, length-map (body-of r) group, length-take (min (r .arity) 4) (r .body)))
 
