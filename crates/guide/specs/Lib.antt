@@ -1,2 +1,3 @@
 pub mod Weighted
 pub mod Fit
+pub mod Map

@@ -2,6 +2,7 @@
 pub mod blank;
 pub mod fit;
 pub mod heavier;
+pub mod map;
 
 ghost use mathlib.Core.Path.{_≡_};
 ghost use Prim.Native.Nat.{ℕ};

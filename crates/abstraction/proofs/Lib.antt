@@ -1,0 +1,4 @@
+pub mod Folding
+pub mod Reading
+pub mod Names
+pub mod Promised

@@ -1,0 +1,2 @@
+pub mod Fold
+pub mod Folds

@@ -1,0 +1,3 @@
+// Sheets over groups of facts: what guides are made from.
+pub mod fold;
+pub mod laws;
