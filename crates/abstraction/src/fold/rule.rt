@@ -28,7 +28,7 @@ fn fold_body(body: &[u16], map: &[u16]) -> [u16; BODY_LIMIT]
     places
 }
 
-// The rule with its facts replaced by their groups; a struck rule is copied.
+// The rule that has each fact's group in its place; a struck one stays as it is.
 fn fold_rule(rule: &Rule, map: &[u16]) -> Rule
     ensures { λ r. ⌜ r ≡ fold-record (group-of (now (map .entry))) (now (rule .entry)) ⌝ }
 {
