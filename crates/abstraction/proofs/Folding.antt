@@ -1,8 +1,7 @@
 -- Folding, step by step.
-use mathlib.Core.Path.{_≡_, refl, sym, ap, _∙_}
-use mathlib.Core.Bool.{true, false, cond}
+use mathlib.Core.Path.{_≡_, sym, ap, _∙_}
 use mathlib.Core.List.{List, [], _∷_, _++_, map}
-use Prim.Native.Nat.{ℕ, zero, suc, min, _+_, _-_, _<_, _≤_}
+use Prim.Native.Nat.{ℕ, _+_, _<_, _≤_}
 use native.Mathlib.Omega.{arith}
 use native.Mathlib.Numerals.{add-one}
 use lib.Dec.{ltb}
@@ -11,13 +10,11 @@ use lib.Seq.{paste}
 use Rattle.std.proofs.shelf.Lists.{at-drop-more, getD-map, map-more, take-more-set, take-all}
 use Rattle.std.proofs.shelf.Edits.{paste-more, paste-all}
 use Rattle.std.proofs.shelf.Tests.{cond-true, cond-false, lt-ltb, le-ltb}
-use Rattle.sheet.specs.declared.rule.Rule.{Rule}
 use Rattle.sheet.specs.declared.slot.Slot.{Slot}
 use Rattle.sheet.specs.declared.slot.Slot.the-variants.{Empty, Full}
-use Rattle.sheet.specs.Refusals.{Answer, accepted, refused, after, a-fact}
-use Rattle.sheet.specs.Rules.{body-of}
-use Rattle.sheet.specs.Slots.{used, empties, count, free}
-use Rattle.abstraction.specs.Fold.{group-of, folded, map-answer, fold-answer, fold-slots}
+use Rattle.sheet.specs.Refusals.{refused, a-fact}
+use Rattle.sheet.specs.Slots.{used, empties, free}
+use Rattle.abstraction.specs.Fold.{map-answer}
 
 module _ (n : ℕ) (xs : List ℕ) (i : ℕ) (h : i < length xs) where
   pub map-pass : getD xs i 0 < n → map-answer n i (drop i xs) ≡ map-answer n (i + 1) (drop (i + 1) xs)

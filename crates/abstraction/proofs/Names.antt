@@ -1,8 +1,8 @@
 -- Folded rules name groups.
-use mathlib.Core.Path.{_≡_, refl, sym, ap, _∙_}
-use mathlib.Core.Bool.{Bool, true, false, cond, _&&_, _||_}
-use mathlib.Core.List.{List, [], _∷_, _++_, map}
-use mathlib.Core.Logic.{inl, inr, ⊎-elim}
+use mathlib.Core.Path.{_≡_, refl, ap, _∙_}
+use mathlib.Core.Bool.{true, false}
+use mathlib.Core.List.{List, [], _∷_, map}
+use mathlib.Core.Logic.{⊎-elim}
 use Prim.Native.Nat.{ℕ, _<_}
 use lib.Dec.{ltb}
 use lib.ListN.{length, take, drop, length-map}
@@ -11,7 +11,7 @@ use Rattle.std.proofs.shelf.Tests.{and-parts, and-from, or-left, both-ways, cas
 use Rattle.sheet.specs.declared.rule.Rule.{Rule}
 use Rattle.sheet.specs.declared.slot.Slot.{Slot}
 use Rattle.sheet.specs.declared.slot.Slot.the-variants.{Empty, Full}
-use Rattle.sheet.specs.Rules.{body-of, made, all-below, within}
+use Rattle.sheet.specs.Rules.{body-of, all-below, within}
 use Rattle.sheet.specs.Slots.{passes}
 use Rattle.sheet.proofs.Within.{within-parts}
 use Rattle.abstraction.specs.Fold.{fold-record, fold-slot, folded}

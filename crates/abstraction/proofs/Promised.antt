@@ -2,8 +2,8 @@
 use mathlib.Core.Path.{_≡_, refl, sym, ap, _∙_}
 use mathlib.Core.Bool.{Bool, true, false, cond}
 use mathlib.Core.List.{List, [], _∷_, map}
-use mathlib.Core.Logic.{inl, inr, ⊎-elim}
-use Prim.Native.Nat.{ℕ, zero, suc, min, _+_, _<_, _≤_}
+use mathlib.Core.Logic.{⊎-elim}
+use Prim.Native.Nat.{ℕ, zero, suc, _+_, _<_, _≤_}
 use native.Mathlib.Omega.{arith}
 use lib.Dec.{ltb}
 use lib.ListN.{length, getD, take, length-take}
@@ -11,9 +11,9 @@ use Rattle.std.proofs.shelf.Lists.{getD-take}
 use Rattle.std.proofs.shelf.Tests.{cases-bool, cond-true, cond-false, ltb-true, ltb-false}
 use Rattle.sheet.specs.declared.slot.Slot.{Slot}
 use Rattle.sheet.specs.Refusals.{Answer, accepted, refused, after, Told, a-fact}
-use Rattle.sheet.specs.Slots.{sheet, count, free, passes}
+use Rattle.sheet.specs.Slots.{count, free, passes}
 use Rattle.abstraction.specs.Fold.{group-of, folded, map-answer, fold-answer, fold-slots}
-use Rattle.abstraction.specs.Folds.{fold-inference, Folds}
+use Rattle.abstraction.specs.Folds.{Folds}
 use Rattle.abstraction.proofs.Reading.{sheet-begins, sheet-alone}
 use Rattle.abstraction.proofs.Names.{names-groups}
 

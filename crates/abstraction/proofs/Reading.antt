@@ -1,8 +1,8 @@
 -- How folded rules are read, and what they weigh.
 use mathlib.Core.Path.{_≡_, refl, sym, ap, _∙_}
-use mathlib.Core.Bool.{Bool, true, false, cond, _&&_}
+use mathlib.Core.Bool.{Bool, true, false, cond}
 use mathlib.Core.List.{List, [], _∷_, _++_, map}
-use Prim.Native.Nat.{ℕ, zero, suc, min, _+_, _-_, _<_, _≤_}
+use Prim.Native.Nat.{ℕ, zero, suc, min, _+_, _-_, _≤_}
 use native.Mathlib.Omega.{arith}
 use lib.ListN.{length, getD, take, drop, replicate, length-take, length-map}
 use lib.Seq.{take-append-add}
@@ -13,12 +13,12 @@ use Rattle.sheet.specs.declared.rule.Rule.{Rule as Record}
 use Rattle.sheet.specs.declared.slot.Slot.{Slot}
 use Rattle.sheet.specs.declared.slot.Slot.the-variants.{Empty, Full}
 use Rattle.sheet.specs.Rules.{Inference, body-of, read, made, within}
-use Rattle.sheet.specs.Slots.{used, front, sheet, passes}
+use Rattle.sheet.specs.Slots.{front, sheet, passes}
 use Rattle.derivation.specs.Rules.{Rule}
 use Rattle.derivation.specs.Maps.{fold-rule, fold-rules}
 use Rattle.guide.specs.Weighted.{weigh, weighted}
 use Rattle.abstraction.specs.Fold.{fold-record, fold-slot, folded}
-use Rattle.abstraction.specs.Folds.{fold-inference, Folded-weighted}
+use Rattle.abstraction.specs.Folds.{fold-inference}
 
 -- a new rule reads with the body that it was made of
 made-body : (b : List ℕ) → length b ≤ 4 → take (min (min (length b) 4) 4) (take 4 (b ++ replicate 4 0)) ≡ b

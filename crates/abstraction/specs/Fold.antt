@@ -1,5 +1,5 @@
 -- Folding a sheet: its rules over groups of facts, what the call answers, and what it leaves.
-use mathlib.Core.Bool.{Bool, false, cond}
+use mathlib.Core.Bool.{cond}
 use mathlib.Core.List.{List, [], _∷_, _++_, map}
 use Prim.Native.Nat.{ℕ, suc}
 use lib.Dec.{ltb}
@@ -8,7 +8,7 @@ use Rattle.sheet.specs.declared.rule.Rule.{Rule}
 use Rattle.sheet.specs.declared.slot.Slot.{Slot}
 use Rattle.sheet.specs.declared.slot.Slot.the-variants.{Empty, Full}
 use Rattle.sheet.specs.Refusals.{Answer, accepted, refused, after, a-fact}
-use Rattle.sheet.specs.Rules.{Inference, body-of, made}
+use Rattle.sheet.specs.Rules.{body-of, made}
 use Rattle.sheet.specs.Slots.{count, free}
 
 -- The group of a fact; 0 for a fact beyond the map.

@@ -1,11 +1,10 @@
-use mathlib.Core.Path.{_≡_, sym, ap, _∙_}
-use Prim.Native.Nat.{ℕ, _≤_}
+use mathlib.Core.Path.{sym, ap, _∙_}
+use Prim.Native.Nat.{ℕ}
 use native.Mathlib.Omega.{arith}
-use lib.ListN.{length}
 use Rattle.std.proofs.shelf.Results.{err-from-errBy}
 use Rattle.std.proofs.shelf.Tests.{leb-true}
 use Rattle.sheet.specs.declared.refusal.Refusal.{Refusal}
-use Rattle.sheet.specs.Refusals.{Answer, accepted, refused, number, told, answer}
+use Rattle.sheet.specs.Refusals.{accepted, refused, number, told, answer}
 use Rattle.abstraction.specs.Fold.{group-of, folded, fold-answer}
 use Rattle.abstraction.proofs.Folding.{free-bound}
 use Rattle.abstraction.proofs.Promised.{judged-in, slots-are, folds-by}

@@ -1,7 +1,6 @@
-use mathlib.Core.Path.{_≡_, ap, _∙_}
+use mathlib.Core.Path.{ap, _∙_}
 use native.Mathlib.Omega.{arith}
-use lib.ListN.{length, set}
-use Rattle.sheet.specs.declared.slot.Slot.{Slot}
+use lib.ListN.{set}
 use Rattle.abstraction.specs.Fold.{group-of, fold-slot}
 use Rattle.abstraction.proofs.Folding.{slots-more, slots-all}
 use Rattle.abstraction.proofs.fold.write.Needs as need
