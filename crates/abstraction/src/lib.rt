@@ -1,4 +1,6 @@
 // Sheets over groups of facts: what guides are made from.
+#![tactic(auto)]
+
 pub mod fold;
 pub mod laws;
 pub mod make;

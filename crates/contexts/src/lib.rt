@@ -1,4 +1,6 @@
 // Contexts: for each fact the least weight of a chain of moves to the target.
+#![tactic(auto)]
+
 mod close;
 mod link;
 mod moves;

@@ -1,5 +1,7 @@
 // Derivations from weighted rules, and the search for one of least weight: definitions and theorems.
 // A function here does nothing: its contract is a theorem, for every measure W.
+#![tactic(auto)]
+
 ghost use Rattle.derivation.specs.Theorems.{FloorsBelow, Optimal, Exact, Agree, Surveyed, BlankFits, HeavierFits, FitBelow, Decided};
 ghost use Rattle.derivation.specs.Maps.{ContextsLeast, MapFits};
 ghost use Rattle.derivation.specs.Examples.{Table};

@@ -1,4 +1,6 @@
 // Runs the calls on standard input, one a line, and prints the reply to each.
+#![tactic(auto)]
+
 mod desk;
 mod edit;
 mod failure;

@@ -1,4 +1,6 @@
 // The reader of sheet files.
+#![tactic(auto)]
+
 mod examples;
 pub mod fault;
 mod fields;

@@ -1,4 +1,6 @@
 // Grades the sheet file on standard input, under each measure with the blank guide.
+#![tactic(auto)]
+
 mod failure;
 mod grade;
 mod input;

@@ -1,4 +1,6 @@
 // Guides: for each fact a floor and a rest, which may spare some work.
+#![tactic(auto)]
+
 pub mod blank;
 pub mod fit;
 pub mod heavier;

@@ -1,4 +1,6 @@
 // Measures of effort: what a derivation weighs, and which of two weights is heavier.
+#![tactic(auto)]
+
 pub mod hardest;
 pub mod total;
 pub mod total_steps;

@@ -1,4 +1,6 @@
 // The search for a derivation of least weight.
+#![tactic(auto)]
+
 pub mod columns;
 mod explore;
 pub mod find;

@@ -1,3 +1,5 @@
 // How weights and refusals are written as text.
+#![tactic(auto)]
+
 pub mod refusal;
 pub mod weight;
