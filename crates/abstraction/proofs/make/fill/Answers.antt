@@ -19,8 +19,8 @@ returns-in-err-pass g c =
     written_accepted (fold_slot (group_of c.args.map.now)) c.args.slots.now c.args.second.now c.write.new.second c.args.groups (omega (arith, few)) few.1 few.0 c.requires.room c.requires.within c.write.ensures in
     absurd (never_both _ _ (c.in-err-pass.ensures.answered ∙ passed))
 
-pub weigh-view-requires : goal.weigh-view-requires
-weigh-view-requires g c =
+pub weigh_view-requires : goal.weigh_view-requires
+weigh_view-requires g c =
     let few = c.requires.few in
     let f = fold_slot (group_of c.args.map.now) in
     let shown =
@@ -42,11 +42,11 @@ returns g c =
     let shown =
     c.in-ok-pass.ensures.left
     ∙ written_shown f c.args.slots.now c.args.second.now c.write.new.second c.args.groups (omega (arith, few)) few.1 few.0 c.requires.room c.requires.within c.write.ensures _ in
-    let v = c.weigh-view.ensures in
+    let v = c.weigh_view.ensures in
     record {
       answered = v.answered;
       folds = written f c.args.slots.now c.args.second.now c.write.new.second c.args.groups (omega (arith, few)) few.1 few.0 c.requires.room c.requires.within c.write.ensures;
       weighs = v.weighs ∙ ap (λ (p : List Slot × ℕ). column (weight_of m (explored m p.0)) p.1) shown;
       gives = v.gives ∙ ap (λ (p : List Slot × ℕ). column (reason_of (explored m p.0)) p.1) shown;
-      leads = v.leads ∙ ap (λ (p : List Slot × ℕ). column (context m (held m c.weigh-view.new.floors) (weighted m p.0) c.args.target) p.1) shown;
+      leads = v.leads ∙ ap (λ (p : List Slot × ℕ). column (context m (held m c.weigh_view.new.floors) (weighted m p.0) c.args.target) p.1) shown;
     }

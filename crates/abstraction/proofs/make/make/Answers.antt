@@ -15,13 +15,13 @@ returns g c =
     let groups = c.args.map.now in
     let n = c.args.groups in
     let target = c.args.target in
-    let v = c.make-in.ensures in
-    let floors = c.make-in.new.floors in
-    let rests = c.make-in.new.rests in
+    let v = c.make_in.ensures in
+    let floors = c.make_in.new.floors in
+    let rests = c.make_in.new.rests in
     let passed = c.args.sheet.now.within in
-    let tested : is_ok c.make-in.result ≡ true → Ready xs facts target groups n c.args.columns.second.now _ =
-    λ ok. ready xs facts target groups n c.args.columns.second.now _ (sym v.answered ∙ ok_accepted c.make-in.result ok) in
-    let promised : is_ok c.make-in.result ≡ true → Made m (weighted m xs) facts target groups n floors rests =
+    let tested : is_ok c.make_in.result ≡ true → Ready xs facts target groups n c.args.columns.second.now _ =
+    λ ok. ready xs facts target groups n c.args.columns.second.now _ (sym v.answered ∙ ok_accepted c.make_in.result ok) in
+    let promised : is_ok c.make_in.result ≡ true → Made m (weighted m xs) facts target groups n floors rests =
     λ ok.
     let r = tested ok in
     let l = long_parts facts (length xs) n _ _ _ _ _ _ r.enough in

@@ -5,19 +5,19 @@ use Rattle.search.specs.Entries.{held}
 use Rattle.contexts.proofs.Places.{part_under}
 use Rattle.contexts.proofs.moves.move_weight.Goals as goal
 
-pub with-floors-before-requires : goal.with-floors-before-requires
-with-floors-before-requires g c =
+pub with_floors-before-requires : goal.with_floors-before-requires
+with_floors-before-requires g c =
     let m = g.W.Measure.ops in
     record {
       normal = ap m.norm c.effort.ensures ∙ g.met.W.Measure.lawful.norm_effort _ ∙ sym c.effort.ensures;
       within = λ i l. let under = part_under _ _ _ c.body-body.ensures c.requires.within in search (rules, under);
     }
 
-pub with-floors-beside-requires : goal.with-floors-beside-requires
-with-floors-beside-requires g c =
+pub with_floors-beside-requires : goal.with_floors-beside-requires
+with_floors-beside-requires g c =
     let m = g.W.Measure.ops in
     record {
-      normal = ap m.norm c.with-floors-before.ensures ∙ g.met.W.Measure.lawful.norm_join _ _ ∙ sym c.with-floors-before.ensures;
+      normal = ap m.norm c.with_floors-before.ensures ∙ g.met.W.Measure.lawful.norm_join _ _ ∙ sym c.with_floors-before.ensures;
       within = λ i l. let under = part_under _ _ _ c.body-body.ensures c.requires.within in search (rules, under);
     }
 

@@ -16,8 +16,8 @@ use Rattle.contexts.proofs.offer.offer_places.Goals as goal
 pub loop-place-init : goal.loop-place-init
 loop-place-init g c = (omega arith, follows_none g.W.Measure.ops _ _ _ _ _ _ _ (λ r i h. omega (arith, h.1)) _ _)
 
-pub move-weight-through-requires : goal.move-weight-through-requires
-move-weight-through-requires g c =
+pub move_weight-through-requires : goal.move_weight-through-requires
+move_weight-through-requires g c =
     let e : c.rule-rule.result ≡ rule_at c.args.slots.now c.args.number = c.rule-rule.ensures in
     record {
       inside = omega (arith, c.loop-place-test.true, ap length c.body-group-items.ensures);
@@ -43,7 +43,7 @@ loop-place-preserved g c =
     let n = c.args.number in
     let i = c.loop-place.place in
     let whole = c.body-group-items.ensures ∙ ap body_of c.rule-rule.ensures in
-    let weighs = c.move-weight-through.ensures ∙ ap (λ (r : Rule). m.join (beside m (held m c.args.floors.now) (weigh m (Full r)) i) c.args.weight) c.rule-rule.ensures in
+    let weighs = c.move_weight-through.ensures ∙ ap (λ (r : Rule). m.join (beside m (held m c.args.floors.now) (weigh m (Full r)) i) c.args.weight) c.rule-rule.ensures in
     let one = place_follows xs n _ c.requires.within c.requires.known.0 c.requires.stands g.met.W.Measure.lawful c.args.floors.now c.args.done.now c.args.weight i _ _ whole c.loop-place-test.true weighs _ _ _ _ c.offer-count.ensures in (
       omega (arith, offering_count m _ _ _ _ _ _ _ c.offer-count.ensures, c.loop-place.invariant.0),
       follows_then m _ _ _ _ _ _ _ _ _ _ _ _ _ _ _ c.loop-place.invariant.1 one

@@ -5,7 +5,7 @@ use Rattle.contexts.proofs.rests.contexts.Goals as goal
 
 pub returns : goal.returns
 returns g c =
-    let v = c.contexts-in.ensures in
+    let v = c.contexts_in.ensures in
     record {
       answered = v.answered;
       rests = v.rests;

@@ -41,7 +41,7 @@ returns g c =
     let floor = held m c.args.floors.now in
     record {
       answered = sym (cond-true _ _ _ low ∙ cond-true _ _ _ long);
-      rests = column_left (context m floor (weighted m c.args.sheet.now.slots.now) c.args.target) _ _ _ _ _ _ all f k (c.contexts-slots.ensures ∙ ap (λ z. column (context m floor (weighted m z) c.args.target) n) xs);
-      queues = scratch_left _ _ _ _ _ all (omega (arith, ap length xs)) lengths.for_queue c.contexts-slots.auto.queue;
-      works = scratch_left _ _ _ _ _ all (omega (arith, f, ap length xs)) lengths.for_work c.contexts-slots.auto.work;
+      rests = column_left (context m floor (weighted m c.args.sheet.now.slots.now) c.args.target) _ _ _ _ _ _ all f k (c.contexts_slots.ensures ∙ ap (λ z. column (context m floor (weighted m z) c.args.target) n) xs);
+      queues = scratch_left _ _ _ _ _ all (omega (arith, ap length xs)) lengths.for_queue c.contexts_slots.auto.queue;
+      works = scratch_left _ _ _ _ _ all (omega (arith, f, ap length xs)) lengths.for_work c.contexts_slots.auto.work;
     }

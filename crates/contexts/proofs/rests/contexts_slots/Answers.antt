@@ -11,5 +11,5 @@ returns g c =
     let m = g.W.Measure.ops in
     let floor = held m c.args.floors.now in
     let rules = weighted m c.args.slots.now in
-    fill_by_all (context m floor rules c.args.target) c.close-all.new.rests _ m.heaviest (c.close-all.auto.rests ∙ c.clear.auto.rests)
-    (λ k _. least_chain_is g.met.W.Measure.lawful floor rules c.args.target k _ (c.close-all.ensures k))
+    fill_by_all (context m floor rules c.args.target) c.close_all.new.rests _ m.heaviest (c.close_all.auto.rests ∙ c.clear.auto.rests)
+    (λ k _. least_chain_is g.met.W.Measure.lawful floor rules c.args.target k _ (c.close_all.ensures k))

@@ -21,8 +21,8 @@ loop-link-init g c =
       follows_none m _ _ _ _ _ _ _ (λ r i h. none_between xs f (length xs) r (omega (arith, e, h.1)) (concludes_under xs f r h.0) h.0) _ _,
     )
 
-pub offer-places-count-requires : goal.offer-places-count-requires
-offer-places-count-requires g c =
+pub offer_places-count-requires : goal.offer_places-count-requires
+offer_places-count-requires g c =
     let xs = c.args.slots.now in
     let f = c.args.group in
     let link = c.loop-link.link in
@@ -59,8 +59,8 @@ loop-link-preserved g c =
     let next = get_or c.args.next.now (link - 1) 0 in
     let e : next ≡ last_rule xs f (link - 1) = c.requires.linked.next_at (link - 1) f (omega (arith, inv.1, some)) h in
     let k : concluding xs f next ≡ concluding xs f (link - 1) = ap (concluding xs f) e ∙ concluding_last xs f (link - 1) in
-    let v = c.offer-places-count.ensures in
-    let one = subst (λ (z : ℕ). Follows m (held m c.args.floors.now) (weighted m xs) (length c.args.done.now) c.args.done.now z c.args.weight (λ r _. r ≡ link - 1) c.loop-link.queue c.loop-link.count c.offer-places-count.new.queue c.offer-places-count.result) (concludes_parts xs f (link - 1) h).1 v.follows in (
+    let v = c.offer_places-count.ensures in
+    let one = subst (λ (z : ℕ). Follows m (held m c.args.floors.now) (weighted m xs) (length c.args.done.now) c.args.done.now z c.args.weight (λ r _. r ≡ link - 1) c.loop-link.queue c.loop-link.count c.offer_places-count.new.queue c.offer_places-count.result) (concludes_parts xs f (link - 1) h).1 v.follows in (
       ap (last_rule xs f) e ∙ last_fixed xs f (link - 1) ∙ sym e,
       omega (arith, e, last_bound xs f (link - 1), inv.1),
       omega (arith, v.few, k, inv.2, link_concluding xs f link some inv.0),

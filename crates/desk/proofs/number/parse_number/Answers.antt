@@ -14,7 +14,7 @@ returns-then-total-limit c =
     let n : ℕ = c.loop-byte.total * 10 + (get_or xs i 0 - 48) in
     let v : value_after n (drop (i + 1) xs) ≡ value xs = sym (at_drop_more (value_after c.loop-byte.total) xs i 0 c.loop-byte-test.true) ∙ c.loop-byte.invariant.2 in
     let large : c.args.limit < value xs = omega (arith, v, value_grows n (drop (i + 1) xs), c.if-total-limit.true) in
-    sym (too_large xs c.args.limit (sym c.is-empty.ensures ∙ c.if-is-empty.false) (sym c.if-not-all-digits.ensures) large)
+    sym (too_large xs c.args.limit (sym c.is_empty.ensures ∙ c.if-is_empty.false) (sym c.if-not-all_digits.ensures) large)
 
 pub loop-byte-preserved : goal.loop-byte-preserved
 loop-byte-preserved c =
@@ -27,4 +27,4 @@ returns c =
     let xs : List ℕ = c.args.word.now in
     let v : c.loop-byte.total ≡ value xs = sym (at_drop_all (value_after c.loop-byte.total) xs c.loop-byte.byte-index c.loop-byte-test.false) ∙ c.loop-byte.invariant.2 in
     ap Ok v
-    ∙ sym (in_range xs c.args.limit (sym c.is-empty.ensures ∙ c.if-is-empty.false) (sym c.if-not-all-digits.ensures) (omega (arith, v, c.loop-byte.invariant.0)))
+    ∙ sym (in_range xs c.args.limit (sym c.is_empty.ensures ∙ c.if-is_empty.false) (sym c.if-not-all_digits.ensures) (omega (arith, v, c.loop-byte.invariant.0)))

@@ -20,6 +20,6 @@ returns-in-Ok c =
 pub returns-in-Err : goal.returns-in-Err
 returns-in-Err c =
     record {
-      answered = ap (λ k. Err (record { index = c.args.index; kind = k })) c.kind-of-kind.ensures ∙ ap (told c.args.index c.args.field c.args.limit) c.in-Err.ensures ∙ sym (number_there (λ x. x.now) c.args.words.now c.args.index c.args.field c.args.limit _ c.if-index-words.false);
+      answered = ap (λ k. Err (record { index = c.args.index; kind = k })) c.kind_of-kind.ensures ∙ ap (told c.args.index c.args.field c.args.limit) c.in-Err.ensures ∙ sym (number_there (λ x. x.now) c.args.words.now c.args.index c.args.field c.args.limit _ c.if-index-words.false);
       bound = tt;
     }

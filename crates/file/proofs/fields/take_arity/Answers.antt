@@ -10,12 +10,12 @@ returns-in-err-arity c =
     let p = err_from_is_err_and c.from-residual.result c.from-residual.ensures.1 in
     rw (p.1, p.2) (stops _ (short c.args.input.now) _ c.in-err-arity.ensures)
 
-pub returns-in-err-check-body : goal.returns-in-err-check-body
+pub returns-in-err-check_body : goal.returns-in-err-check_body
 unfolding arity_field
-returns-in-err-check-body c =
-    let p = err_from_is_err_and c.from-residual-in-err-check-body.result c.from-residual-in-err-check-body.ensures.1 in
-    rw (p.1, p.2) (tested_out (λ p. body_answer p.0) (short c.args.input.now) _ c.in-ok-arity.ensures _ _ c.in-err-check-body.ensures)
+returns-in-err-check_body c =
+    let p = err_from_is_err_and c.from-residual-in-err-check_body.result c.from-residual-in-err-check_body.ensures.1 in
+    rw (p.1, p.2) (tested_out (λ p. body_answer p.0) (short c.args.input.now) _ c.in-ok-arity.ensures _ _ c.in-err-check_body.ensures)
 
 pub returns : goal.returns
 unfolding arity_field
-returns c = tested_in (λ p. body_answer p.0) (short c.args.input.now) _ c.in-ok-arity.ensures c.in-ok-check-body.ensures
+returns c = tested_in (λ p. body_answer p.0) (short c.args.input.now) _ c.in-ok-arity.ensures c.in-ok-check_body.ensures

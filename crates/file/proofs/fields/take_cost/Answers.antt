@@ -10,12 +10,12 @@ returns-in-err-cost c =
     let p = err_from_is_err_and c.from-residual.result c.from-residual.ensures.1 in
     rw (p.1, p.2) (stops _ (number c.args.input.now) _ c.in-err-cost.ensures)
 
-pub returns-in-err-check-cost : goal.returns-in-err-check-cost
+pub returns-in-err-check_cost : goal.returns-in-err-check_cost
 unfolding cost_field
-returns-in-err-check-cost c =
-    let p = err_from_is_err_and c.from-residual-in-err-check-cost.result c.from-residual-in-err-check-cost.ensures.1 in
-    rw (p.1, p.2) (tested_out (λ p. cost_answer p.0) (number c.args.input.now) _ c.in-ok-cost.ensures _ _ c.in-err-check-cost.ensures)
+returns-in-err-check_cost c =
+    let p = err_from_is_err_and c.from-residual-in-err-check_cost.result c.from-residual-in-err-check_cost.ensures.1 in
+    rw (p.1, p.2) (tested_out (λ p. cost_answer p.0) (number c.args.input.now) _ c.in-ok-cost.ensures _ _ c.in-err-check_cost.ensures)
 
 pub returns : goal.returns
 unfolding cost_field
-returns c = tested_in (λ p. cost_answer p.0) (number c.args.input.now) _ c.in-ok-cost.ensures c.in-ok-check-cost.ensures
+returns c = tested_in (λ p. cost_answer p.0) (number c.args.input.now) _ c.in-ok-cost.ensures c.in-ok-check_cost.ensures

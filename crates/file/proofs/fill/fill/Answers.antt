@@ -11,9 +11,9 @@ returns-then-wanted-eq0 c k =
     ∙ ap (λ n. so_far (rules c.args.size n c.loop-slot.left.now) c.loop-slot.slot-index c.loop-slot.slots) (sym c.if-wanted-eq0.true)
     ∙ (c.loop-slot.invariant k).1
 
-pub returns-in-default-take-rule : goal.returns-in-default-take-rule
-returns-in-default-take-rule c k =
-    not_refused c.args.size c.loop-slot.wanted c.loop-slot.left.now _ (omega arith) c.in-default-take-rule.ensures (c.loop-slot.invariant k).0
+pub returns-in-default-take_rule : goal.returns-in-default-take_rule
+returns-in-default-take_rule c k =
+    not_refused c.args.size c.loop-slot.wanted c.loop-slot.left.now _ (omega arith) c.in-default-take_rule.ensures (c.loop-slot.invariant k).0
 
 pub loop-slot-preserved : goal.loop-slot-preserved
 loop-slot-preserved c k =

@@ -10,4 +10,4 @@ returns-in-err-left c =
 
 pub returns : goal.returns
 returns c =
-    c.check-tail.ensures ∙ closing_end _ _ c.args.input.now c.in-ok-left.left.now c.in-ok-left.ensures
+    c.check_tail.ensures ∙ closing_end _ _ c.args.input.now c.in-ok-left.left.now c.in-ok-left.ensures

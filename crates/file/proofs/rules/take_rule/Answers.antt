@@ -13,8 +13,8 @@ returns-in-err-arity c =
     let p = err_from_is_err_and c.from-residual-in-err-arity.result c.from-residual-in-err-arity.ensures.1 in
     rw (p.1, p.2) (arity_out _ c.args.input.now _ c.in-ok-head.ensures _ c.in-err-arity.ensures)
 
-pub take-body-requires : goal.take-body-requires
-take-body-requires c = arity_small _ _ _ c.in-ok-arity.ensures
+pub take_body-requires : goal.take_body-requires
+take_body-requires c = arity_small _ _ _ c.in-ok-arity.ensures
 
 pub returns-in-err-body : goal.returns-in-err-body
 returns-in-err-body c =

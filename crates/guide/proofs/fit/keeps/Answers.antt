@@ -9,8 +9,8 @@ use Rattle.guide.proofs.Fitting.{all_more, all_fails, and_true, joining_is, besi
 use Rattle.guide.proofs.Joining.{joined_more}
 use Rattle.guide.proofs.fit.keeps.Goals as goal
 
-pub returns-then-not-no-heavier : goal.returns-then-not-no-heavier
-returns-then-not-no-heavier g c =
+pub returns-then-not-no_heavier : goal.returns-then-not-no_heavier
+returns-then-not-no_heavier g c =
     let m = g.W.Measure.ops in
     let floor = g.G.Guide.floor c.args.guide.now in
     let kept = rest_kept m floor (g.G.Guide.rest c.args.guide.now) (weigh m (Full c.args.rule.now)) in
@@ -40,7 +40,7 @@ returns g c =
     let kept = rest_kept m floor (g.G.Guide.rest c.args.guide.now) a in
     let whole = take_all c.loop-place.place c.body-body.result.now c.loop-place-test.false in
     let made = joining_is g.met.W.Measure.lawful floor c.args.rule.now (body_of c.args.rule.now) in
-    let last : c.no-heavier-2.result ≡ floor_kept m floor a = cc c.loop-place.invariant.0 in
+    let last : c.no_heavier-2.result ≡ floor_kept m floor a = cc c.loop-place.invariant.0 in
     let e = ap length c.body-body.ensures in
     let same : c.loop-place.place ≡ length (body_of c.args.rule.now) = omega arith in
     let all : all_below (length (body_of c.args.rule.now)) kept ≡ true = ap (λ n. all_below n kept) (sym same) ∙ c.loop-place.invariant.1 in

@@ -4,6 +4,6 @@ use Rattle.queue.proofs.heap.put.Goals as goal
 
 pub returns : goal.returns
 returns g c =
-    added_part g.T.Order.leb c.args.queue.now c.args.count c.args.x c.sift-up.new.heap
+    added_part g.T.Order.leb c.args.queue.now c.args.count c.args.x c.sift_up.new.heap
     (c.args.count + 1 - 0) (omega arith) c.if-count-queue.false
-    c.sift-up.ensures.contents c.sift-up.ensures.mends
+    c.sift_up.ensures.contents c.sift_up.ensures.mends

@@ -14,7 +14,7 @@ loop-place-preserved g c =
     pair_read l.heap (λ x y. g.T.Order.leb x y ≡ true) l.place p
     c.index-heap-place.result c.index-heap-parent.result (omega arith) (omega arith)
     c.index-heap-place.is c.index-heap-parent.is
-    (not_later lin c.index-heap-parent.result c.index-heap-place.result (sym c.if-no-later.ensures)) in (
+    (not_later lin c.index-heap-parent.result c.index-heap-place.result (sym c.if-no_later.ensures)) in (
       omega arith,
       omega arith,
       IsPermutation-trans c.args.heap.now l.heap c.swap.new.self l.invariant.2 c.swap.ensures.permutation,

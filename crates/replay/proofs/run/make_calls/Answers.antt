@@ -16,7 +16,7 @@ loop-i-init g c = (begun _ _ _ _ _ _ _, untouched _ _, untouched _ _)
 pub loop-i-preserved : goal.loop-i-preserved
 loop-i-preserved g c =
     let l = c.loop-i in
-    let r = c.run-one-reply in
+    let r = c.run_one-reply in
     let m = g.W.Measure.ops in
     let floor = g.G.Guide.floor in
     let rest = g.G.Guide.rest in

@@ -7,7 +7,7 @@ use Rattle.replay.proofs.run.run.Goals as goal
 
 pub returns : goal.returns
 returns g c =
-    let v = c.run-in.ensures in
+    let v = c.run_in.ensures in
     let f = c.args.columns in
     let long : Lengths = record { weights = length f.weights.now; reasons = length f.reasons.now; line = length f.line.now; queue = length f.queue.now; work = length f.work.now } in
     let b : Board g.row.W.Denot = record { slots = c.args.slots.now; weights = f.weights.now; reasons = f.reasons.now; line = f.line.now } in

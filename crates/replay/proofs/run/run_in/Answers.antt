@@ -9,8 +9,8 @@ use Rattle.replay.specs.Run.{Board, Lengths, board_after, replies_to, opened, wi
 use Rattle.replay.proofs.Starting.{start_room, start_opens, start_keeps, left_accepted, left_refused}
 use Rattle.replay.proofs.run.run_in.Goals as goal
 
-pub make-calls-requires : goal.make-calls-requires
-make-calls-requires g c = start_room _ _ _ c.in-ok-start.ensures.answered
+pub make_calls-requires : goal.make_calls-requires
+make_calls-requires g c = start_room _ _ _ c.in-ok-start.ensures.answered
 
 pub returns-in-err-start : goal.returns-in-err-start
 returns-in-err-start g c =
@@ -34,10 +34,10 @@ returns g c =
     let b : Board g.row.W.Denot = record { slots = xs; weights = c.args.weights.now; reasons = c.args.reasons.now; line = c.args.line.now } in
     let empty : c.start.new.slots ≡ replicate (length xs) Empty = c.in-ok-start.ensures.left ∙ start_opens xs _ _ e in
     let same : length c.start.new.slots ≡ length xs = c.start.auto.slots in
-    let v = c.make-calls.ensures in
+    let v = c.make_calls.ensures in
     let z = left_accepted _ b _ _ _ _ _ _ _ _ _ _ _ e
     (v.leaves ∙ ap (λ ys. board_after m long floor rest (with_slots b ys) calls) empty)
-    (subst (λ ys. Written c.args.replies.now c.make-calls.new.replies (replies_to m long floor rest (with_slots b ys) calls)) empty v.replies)
-    (subst (λ (n : ℕ). Scratch true n c.args.queue.now c.make-calls.new.queue) same v.queues)
-    (subst (λ (n : ℕ). Scratch true (work_length 4096 n) c.args.work.now c.make-calls.new.work) same v.works) in
+    (subst (λ ys. Written c.args.replies.now c.make_calls.new.replies (replies_to m long floor rest (with_slots b ys) calls)) empty v.replies)
+    (subst (λ (n : ℕ). Scratch true n c.args.queue.now c.make_calls.new.queue) same v.queues)
+    (subst (λ (n : ℕ). Scratch true (work_length 4096 n) c.args.work.now c.make_calls.new.work) same v.works) in
     record { answered = e; leaves = z.leaves; replies = z.replies; queues = z.queues; works = z.works }

@@ -8,7 +8,7 @@ pub run-requires : goal.run-requires
 run-requires g c =
     let w = c.clear.auto.weights in
     let r = c.fill.ensures.len in
-    let m = c.count-missing.auto.missing in
+    let m = c.count_missing.auto.missing in
     let h = c.chain.auto.heads in
     let e : c.fill.new.self ≡ replicate (length c.args.reasons.now) 65535 = search rules in
     record {
@@ -17,7 +17,7 @@ run-requires g c =
       within = subst (λ (n : ℕ). passes n c.args.slots.now ≡ true) (sym w) c.requires.within;
       chained = c.chain.ensures;
       shown = shows_start _ _ _ _ _ _ _ c.clear.ensures e;
-      running = running_start _ _ _ _ _ e (m ∙ c.requires.long.3) c.count-missing.ensures;
+      running = running_start _ _ _ _ _ e (m ∙ c.requires.long.3) c.count_missing.ensures;
       ready = c.seed-first.ensures.ready;
       room = c.seed-first.ensures.total;
     }

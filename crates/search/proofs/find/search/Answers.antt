@@ -6,7 +6,7 @@ use Rattle.search.proofs.find.search.Goals as goal
 
 pub returns : goal.returns
 returns g c =
-    let v = c.search-in.ensures in
+    let v = c.search_in.ensures in
     record {
       answered = v.answered;
       weighs = v.weighs;

@@ -23,8 +23,8 @@ loop-left-init c =
     ap (λ l. get_or (set l c.args.target 1) f 0) e
     ∙ one_mark n c.args.target f c.requires.known.0 (omega (arith, h, length-set c.fill.new.self c.args.target 1, c.fill.ensures.len)))
 
-pub unwind-rule-len-requires : goal.unwind-rule-len-requires
-unwind-rule-len-requires c =
+pub unwind_rule-len-requires : goal.unwind_rule-len-requires
+unwind_rule-len-requires c =
     let i = c.loop-left.left - 1 in
     let n = length c.args.needed.now in
     let d = c.loop-left.invariant in
@@ -46,11 +46,11 @@ loop-left-preserved c =
     let k : length c.loop-left.needed ≡ n = c.loop-left.auto.needed ∙ length-set c.fill.new.self c.args.target 1 ∙ c.fill.ensures.len in
     let r = get_or c.args.order.now i 0 in
     let h = (within_parts n (rule_at xs r) (passes_at n xs r c.requires.within s.0).1 s.1).0 in
-    let u = c.unwind-rule-len.ensures in
+    let u = c.unwind_rule-len.ensures in
     drawing_next xs c.args.order.now c.args.target c.loop-left.needed c.loop-left.line c.args.line.now c.loop-left.len c.loop-left.left
     d c.loop-left-test.true (omega (arith, c.requires.known.1, c.loop-left.auto.line))
-    c.unwind-rule-len.new.needed c.unwind-rule-len.new.line c.unwind-rule-len.result
-    (omega (arith, h, k)) c.unwind-rule-len.auto.needed u.counts u.written u.marks
+    c.unwind_rule-len.new.needed c.unwind_rule-len.new.line c.unwind_rule-len.result
+    (omega (arith, h, k)) c.unwind_rule-len.auto.needed u.counts u.written u.marks
 
 pub returns : goal.returns
 returns c =

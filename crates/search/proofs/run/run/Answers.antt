@@ -60,14 +60,14 @@ bounds-order-closed g c =
     let order = c.loop-entry.auto.order ∙ c.requires.long.1 ∙ sym c.loop-entry.auto.weights in
     turn_room g.met.W.Measure.lawful _ _ _ _ _ _ _ _ _ _ _ lengths within c.loop-entry.invariant _ _ c.in-Some.ensures _ head reasons order c.requires.few.0 c.if-reasons-head.false
 
-pub returns-then-is-target : goal.returns-then-is-target
-returns-then-is-target g c =
+pub returns-then-is_target : goal.returns-then-is_target
+returns-then-is_target g c =
     let lengths = c.loop-entry.auto.missing ∙ c.requires.long.3 in
     let within : passes (length c.loop-entry.weights) c.args.slots.now ≡ true = rw c.loop-entry.auto.weights c.requires.within in
     let head : c.rule-head.result.head ≡ (rule_at c.args.slots.now c.in-Some.entry.rule).head = ap (λ (a : Rule). a.head) c.rule-head.ensures in
     let reasons = c.loop-entry.auto.reasons ∙ c.requires.long.0 ∙ sym c.loop-entry.auto.weights in
     let order = c.loop-entry.auto.order ∙ c.requires.long.1 ∙ sym c.loop-entry.auto.weights in
-    let out = turn_found g.met.W.Measure.lawful _ _ _ _ _ _ _ _ _ _ _ lengths within c.loop-entry.invariant _ _ c.in-Some.ensures _ head reasons order c.requires.few.0 c.if-reasons-head.false (sym c.is-target.ensures ∙ c.if-is-target.true) in
+    let out = turn_found g.met.W.Measure.lawful _ _ _ _ _ _ _ _ _ _ _ lengths within c.loop-entry.invariant _ _ c.in-Some.ensures _ head reasons order c.requires.few.0 c.if-reasons-head.false (sym c.is_target.ensures ∙ c.if-is_target.true) in
     record { answered = out.0; shows = rw c.store.ensures out.1 }
 
 pub walk-count-requires : goal.walk-count-requires
@@ -93,4 +93,4 @@ loop-entry-preserved g c =
     let head : c.rule-head.result.head ≡ (rule_at c.args.slots.now c.in-Some.entry.rule).head = ap (λ (a : Rule). a.head) c.rule-head.ensures in
     let reasons = c.loop-entry.auto.reasons ∙ c.requires.long.0 ∙ sym c.loop-entry.auto.weights in
     let order = c.loop-entry.auto.order ∙ c.requires.long.1 ∙ sym c.loop-entry.auto.weights in
-    rw c.store.ensures (turn_walked g.met.W.Measure.lawful _ _ _ _ _ _ _ _ _ _ _ lengths within c.loop-entry.invariant _ _ c.in-Some.ensures _ head reasons order c.requires.few.0 c.if-reasons-head.false _ _ _ (sym c.is-target.ensures ∙ c.if-is-target.false) c.walk-count.ensures.left c.walk-count.ensures.total (rw c.store.ensures at c.walk-count.ensures.ready))
+    rw c.store.ensures (turn_walked g.met.W.Measure.lawful _ _ _ _ _ _ _ _ _ _ _ lengths within c.loop-entry.invariant _ _ c.in-Some.ensures _ head reasons order c.requires.few.0 c.if-reasons-head.false _ _ _ (sym c.is_target.ensures ∙ c.if-is_target.false) c.walk-count.ensures.left c.walk-count.ensures.total (rw c.store.ensures at c.walk-count.ensures.ready))

@@ -11,8 +11,8 @@ pub loop-number-init : goal.loop-number-init
 unfolding unready
 loop-number-init g c = (omega arith, filled_none _ _ _ _ (λ r. rw (le-ltb r 0 (omega arith))))
 
-pub seed-rule-count-requires : goal.seed-rule-count-requires
-seed-rule-count-requires g c =
+pub seed_rule-count-requires : goal.seed_rule-count-requires
+seed_rule-count-requires g c =
     record {
       known = (c.loop-number-test.true, c.requires.known.0, c.requires.known.1);
       within = c.requires.within;
@@ -25,8 +25,8 @@ loop-number-preserved g c =
     let ms = c.args.missing.now in
     let i = c.loop-number.number in
     let l : i < length ms = omega (arith, c.loop-number-test.true, c.requires.known.0) in
-    let f = c.seed-rule-count.ensures.filled (seeded xs ms i) (seeded_not xs ms i) c.loop-number.invariant.1 in (
-      omega (arith, c.seed-rule-count.ensures.counts, unready_more ms i l, either_way xs ms i, c.loop-number.invariant.0),
+    let f = c.seed_rule-count.ensures.filled (seeded xs ms i) (seeded_not xs ms i) c.loop-number.invariant.1 in (
+      omega (arith, c.seed_rule-count.ensures.counts, unready_more ms i l, either_way xs ms i, c.loop-number.invariant.0),
       filled_same _ _ _ _ _ _ (seeded_more xs ms i) f,
     )
 

@@ -28,8 +28,8 @@ returns-then-missing-number-gt0 g c =
     (λ v. omega (arith, v.none_open, c.if-missing-number-gt0.true)) in
     record { counts = kept_count _ _ w; filled = λ flag absent f. filled_kept _ _ flag _ _ _ _ w f }
 
-pub entry-of-entry-requires : goal.entry-of-entry-requires
-entry-of-entry-requires g c =
+pub entry_of-entry-requires : goal.entry_of-entry-requires
+entry_of-entry-requires g c =
     let w = (passes_at _ _ _ c.requires.within c.requires.known.0).1 in
     let s = rw c.rule-rule.ensures at c.if-rule.false in
     rw c.rule-rule.ensures (within_parts (length c.args.weights.now) (rule_at c.args.slots.now c.args.number) w s).1
@@ -46,8 +46,8 @@ returns-in-Ok g c =
     record {
       counts = omega (arith, a.answer, one);
       filled = λ flag absent f. filled_new _ _ flag _ _ _ _ _ _ _ w
-          (ap (λ (e : Entry _). e.rule) c.entry-of-entry.ensures)
-          (c.entry-of-entry.ensures ∙ ap (λ x. rule_entry g.W.Measure.ops (g.G.Guide.rest c.args.guide.now) x c.args.number c.args.weights.now) c.rule-rule.ensures)
+          (ap (λ (e : Entry _). e.rule) c.entry_of-entry.ensures)
+          (c.entry_of-entry.ensures ∙ ap (λ x. rule_entry g.W.Measure.ops (g.G.Guide.rest c.args.guide.now) x c.args.number c.args.weights.now) c.rule-rule.ensures)
           absent a f;
     }
 

@@ -14,7 +14,7 @@ loop-number-init c =
 pub loop-number-preserved : goal.loop-number-preserved
 loop-number-preserved c =
     let e : 4 * c.loop-number.number + 4 ≡ 4 * (c.loop-number.number + 1) = omega arith in
-    subst (λ (k : ℕ). Chained c.args.slots.now c.chain-rule.new.heads c.chain-rule.new.next k) e c.chain-rule.ensures
+    subst (λ (k : ℕ). Chained c.args.slots.now c.chain_rule.new.heads c.chain_rule.new.next k) e c.chain_rule.ensures
 
 pub returns : goal.returns
 returns c =

@@ -6,7 +6,7 @@ use Rattle.search.proofs.survey.survey.Goals as goal
 
 pub returns : goal.returns
 returns g c =
-    let v = c.survey-in.ensures in
+    let v = c.survey_in.ensures in
     record {
       answered = v.answered;
       weighs = v.weighs;

@@ -47,12 +47,12 @@ returns g c =
     let lengths = long_parts _ _ _ _ _ _ long in
     let k = part_length _ _ c.args.weights.now f lengths.for_weights in
     let n = length (take (c.facts-facts.result - 0) c.args.weights.now) in
-    let v = c.survey-slots.ensures in
+    let v = c.survey_slots.ensures in
     let counts : List Slot → Counts = λ z. record { closed = closed_count (explored m z); taken = taken_count (explored m z) } in
     record {
       answered = ap accepted (v.answered ∙ ap counts xs) ∙ sym (cond-true _ _ _ long);
       weighs = column_left (weight_of m (explored m c.args.sheet.now.slots.now)) _ _ _ _ _ _ long f k (v.weighs ∙ ap (λ z. column (weight_of m (explored m z)) n) xs);
       gives = column_left (reason_of (explored m c.args.sheet.now.slots.now)) _ _ _ _ _ _ long f k (v.gives ∙ ap (λ z. column (reason_of (explored m z)) n) xs);
-      queues = scratch_left _ _ _ _ _ long (ap length xs) lengths.for_queue c.survey-slots.auto.queue;
-      works = scratch_left _ _ _ _ _ long (omega (arith, f, ap length xs)) lengths.for_work c.survey-slots.auto.work;
+      queues = scratch_left _ _ _ _ _ long (ap length xs) lengths.for_queue c.survey_slots.auto.queue;
+      works = scratch_left _ _ _ _ _ long (omega (arith, f, ap length xs)) lengths.for_work c.survey_slots.auto.work;
     }

@@ -19,7 +19,7 @@ pub returns-in-Err : goal.returns-in-Err
 returns-in-Err g c =
     let b = c.in-Err.ensures in
     record {
-      answered = c.counts-of.ensures _ _ (same_refusal _ _ _ b.answered);
+      answered = c.counts_of.ensures _ _ (same_refusal _ _ _ b.answered);
       weighs = weights_are g.W.Measure.ops _ _ _ _ _ _ _ b.shows _ c.explore.auto.weights;
       gives = reasons_are g.W.Measure.ops _ _ _ _ _ _ _ b.shows _ (c.explore.auto.reasons ∙ c.requires.long.0);
     }

@@ -31,8 +31,8 @@ returns-then-left-gt0 g c =
       ready = λ taken r. ready_still _ _ _ _ taken _ _ u c.requires.stands c.requires.some _ _ r c.if-left-gt0.true;
     }
 
-pub entry-of-entry-requires : goal.entry-of-entry-requires
-entry-of-entry-requires g c =
+pub entry_of-entry-requires : goal.entry_of-entry-requires
+entry_of-entry-requires g c =
     let w = (passes_at _ _ _ c.requires.within c.requires.known.0).1 in
     rw c.rule-rule.ensures (within_parts (length c.args.weights.now) (rule_at c.args.slots.now c.args.number) w c.requires.stands).1
 
@@ -44,7 +44,7 @@ returns-in-Ok g c =
     record {
       left = refl;
       total = omega (arith, a.answer, total_last _ _ u c.requires.some z);
-      ready = λ taken r. ready_put _ _ _ _ taken _ _ u c.requires.stands c.requires.some _ _ r z _ _ _ (c.entry-of-entry.ensures ∙ ap (λ x. rule_entry g.W.Measure.ops (g.G.Guide.rest c.args.guide.now) x c.args.number c.args.weights.now) c.rule-rule.ensures) a;
+      ready = λ taken r. ready_put _ _ _ _ taken _ _ u c.requires.stands c.requires.some _ _ r z _ _ _ (c.entry_of-entry.ensures ∙ ap (λ x. rule_entry g.W.Measure.ops (g.G.Guide.rest c.args.guide.now) x c.args.number c.args.weights.now) c.rule-rule.ensures) a;
     }
 
 pub returns-in-Err : goal.returns-in-Err

@@ -4,4 +4,4 @@ use Rattle.search.proofs.weigh.entry_of.Goals as goal
 
 pub returns : goal.returns
 unfolding rule_entry
-returns g c = rw (c.join-priority.ensures, c.rest.ensures, c.weight-of-weight.ensures)
+returns g c = rw (c.join-priority.ensures, c.rest.ensures, c.weight_of-weight.ensures)

@@ -18,12 +18,12 @@ invariant-of-view c =
     let h = counted _ _ _ _ c.used-slots.ensures c.in-ok-count.ensures in
     let m = c.in-ok-count.count - 0 in
     let few = le-leb (length (take m c.used-slots.result.now)) 16000 (omega (arith, h.few, length-take m c.used-slots.result.now)) in
-    (h.within_facts, (few, (le-leb _ _ c.if-facts-gt-FACT-LIMIT.false, tt)))
+    (h.within_facts, (few, (le-leb _ _ c.if-facts-gt-FACT_LIMIT.false, tt)))
 
 pub returns : goal.returns
 returns c =
     let h = counted _ _ _ _ c.used-slots.ensures c.in-ok-count.ensures in
-    let e = pass_fits c.args.facts c.in-ok-count.count c.args.slots.now c.if-facts-eq0.false c.if-facts-gt-FACT-LIMIT.false (rw c.used-slots.ensures at c.in-ok-count.ensures) in
+    let e = pass_fits c.args.facts c.in-ok-count.count c.args.slots.now c.if-facts-eq0.false c.if-facts-gt-FACT_LIMIT.false (rw c.used-slots.ensures at c.in-ok-count.ensures) in
     record {
       answered = sym e;
       left = ap (λ xs. (xs, c.args.facts)) h.shown ∙ sym (ap (λ a. after a (λ _. (take (count c.args.slots.now) c.args.slots.now, c.args.facts)) (seen c.args.view.now)) e);

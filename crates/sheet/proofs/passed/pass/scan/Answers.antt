@@ -8,13 +8,13 @@ use Rattle.sheet.proofs.passed.pass.scan.Goals as goal
 pub returns-in-Empty : goal.returns-in-Empty
 returns-in-Empty c = sym (scan_empty _ _ _ c.loop-i-test.true c.in-Empty.is) ∙ c.loop-i.invariant
 
-pub returns-then-not-is-within : goal.returns-then-not-is-within
-returns-then-not-is-within c =
-    sym (scan_stray _ _ _ c.loop-i-test.true _ c.in-Full.is (sym c.is-within.ensures ∙ c.if-not-is-within.true)) ∙ c.loop-i.invariant
+pub returns-then-not-is_within : goal.returns-then-not-is_within
+returns-then-not-is_within c =
+    sym (scan_stray _ _ _ c.loop-i-test.true _ c.in-Full.is (sym c.is_within.ensures ∙ c.if-not-is_within.true)) ∙ c.loop-i.invariant
 
 pub loop-i-preserved : goal.loop-i-preserved
 loop-i-preserved c =
-    sym (scan_within _ _ _ c.loop-i-test.true _ c.in-Full.is (sym c.is-within.ensures ∙ c.if-not-is-within.false)) ∙ c.loop-i.invariant
+    sym (scan_within _ _ _ c.loop-i-test.true _ c.in-Full.is (sym c.is_within.ensures ∙ c.if-not-is_within.false)) ∙ c.loop-i.invariant
 
 pub returns : goal.returns
 returns c =
