@@ -10,19 +10,19 @@ use Rattle.abstraction.proofs.fold.fold.Goals as goal
 
 pub write-requires : goal.write-requires
 write-requires c =
-    let j = judged_in c.slots-slots.result.now c.facts.result c.args.map.now c.args.groups c.args.second.now (sym c.in-ok-check.ensures) in
+    let j = judged_in c.slots-slots.result.now c.facts.result c.args.map.now c.args.groups c.args.second.now (sym c.in_ok-check.ensures) in
     omega (arith, free_bound c.args.second.now, j.room)
 
-pub returns-in-err-check : goal.returns-in-err-check
-returns-in-err-check c =
+pub returns-in_err-check : goal.returns-in_err-check
+returns-in_err-check c =
     let xs = c.args.sheet.now.slots.now in
     let facts = c.args.sheet.now.facts in
     let groups = c.args.map.now in
     let n = c.args.groups in
     let second = c.args.second.now in
-    let p = err_from_is_err_and c.from-residual.result c.from-residual.ensures.1 in
+    let p = err_from_is_err_and c.from_residual.result c.from_residual.ensures.1 in
     let e =
-    c.in-err-check.ensures
+    c.in_err-check.ensures
     ∙ ap (λ l. fold_answer l c.facts.result groups n second) c.slots-slots.ensures
     ∙ ap (λ (k : ℕ). fold_answer xs k groups n second) c.facts.ensures in
     let answered = ap answer p.1 ∙ ap (λ (e : Refusal). refused (number e) (told e)) p.2 ∙ e in
@@ -37,7 +37,7 @@ returns c =
     let n = c.args.groups in
     let second = c.args.second.now in
     let answered =
-    c.in-ok-check.ensures
+    c.in_ok-check.ensures
     ∙ ap (λ l. fold_answer l c.facts.result groups n second) c.slots-slots.ensures
     ∙ ap (λ (k : ℕ). fold_answer xs k groups n second) c.facts.ensures in
     let left =

@@ -12,19 +12,19 @@ use Rattle.abstraction.proofs.Making.{never_both}
 use Rattle.abstraction.proofs.Passing.{written, written_accepted, written_shown}
 use Rattle.abstraction.proofs.make.fill.Goals as goal
 
-pub returns-in-err-pass : goal.returns-in-err-pass
-returns-in-err-pass g c =
+pub returns-in_err-pass : goal.returns-in_err-pass
+returns-in_err-pass g c =
     let few = c.requires.few in
     let passed =
     written_accepted (fold_slot (group_of c.args.map.now)) c.args.slots.now c.args.second.now c.write.new.second c.args.groups (omega (arith, few)) few.1 few.0 c.requires.room c.requires.within c.write.ensures in
-    absurd (never_both _ _ (c.in-err-pass.ensures.answered ∙ passed))
+    absurd (never_both _ _ (c.in_err-pass.ensures.answered ∙ passed))
 
 pub weigh_view-requires : goal.weigh_view-requires
 weigh_view-requires g c =
     let few = c.requires.few in
     let f = fold_slot (group_of c.args.map.now) in
     let shown =
-    c.in-ok-pass.ensures.left
+    c.in_ok-pass.ensures.left
     ∙ written_shown f c.args.slots.now c.args.second.now c.write.new.second c.args.groups (omega (arith, few)) few.1 few.0 c.requires.room c.requires.within c.write.ensures _ in
     let facts : c.pass.new.view.facts ≡ c.args.groups = ap (λ (p : List Slot × ℕ). p.1) shown in
     let rules : length c.pass.new.view.slots.now ≡ length c.args.slots.now = ap (λ (p : List Slot × ℕ). length p.0) shown ∙ length-map c.args.slots.now f in
@@ -40,7 +40,7 @@ returns g c =
     let few = c.requires.few in
     let f = fold_slot (group_of c.args.map.now) in
     let shown =
-    c.in-ok-pass.ensures.left
+    c.in_ok-pass.ensures.left
     ∙ written_shown f c.args.slots.now c.args.second.now c.write.new.second c.args.groups (omega (arith, few)) few.1 few.0 c.requires.room c.requires.within c.write.ensures _ in
     let v = c.weigh_view.ensures in
     record {

@@ -18,12 +18,12 @@ use Rattle.abstraction.proofs.Names.{slots_name}
 use Rattle.abstraction.proofs.Promised.{map_grouped}
 use Rattle.abstraction.proofs.make.make_in.Goals as goal
 
-pub returns-in-err-check : goal.returns-in-err-check
-returns-in-err-check g c =
-    let p = err_from_is_err_and c.from-residual.result c.from-residual.ensures.1 in
+pub returns-in_err-check : goal.returns-in_err-check
+returns-in_err-check g c =
+    let p = err_from_is_err_and c.from_residual.result c.from_residual.ensures.1 in
     let e =
-    answer_shown c.slots-slots.ensures c.facts-facts.ensures c.args.target c.args.map.now c.args.groups c.args.second.now c.enough-long.result _ _ _ _ _ _ c.enough-long.ensures c.in-err-check.ensures in
-    let failed : is_ok c.from-residual.result ≡ false = ap is_ok p.1 in
+    answer_shown c.slots-slots.ensures c.facts-facts.ensures c.args.target c.args.map.now c.args.groups c.args.second.now c.enough-long.result _ _ _ _ _ _ c.enough-long.ensures c.in_err-check.ensures in
+    let failed : is_ok c.from_residual.result ≡ false = ap is_ok p.1 in
     record {
       answered = ap answer p.1 ∙ ap (λ (e : Refusal). refused (number e) (told e)) p.2 ∙ e;
       folds = sym (cond-false _ _ _ failed);
@@ -34,10 +34,10 @@ returns-in-err-check g c =
       works = still _ _ _;
     }
 
-pub slice-bounds-fill-end : goal.slice-bounds-fill-end
-slice-bounds-fill-end g c =
+pub slice_bounds-fill-end : goal.slice_bounds-fill-end
+slice_bounds-fill-end g c =
     let r =
-    ready c.slots-slots.result.now c.facts-facts.result c.args.target c.args.map.now c.args.groups c.args.second.now c.enough-long.result (sym c.in-ok-check.ensures) in
+    ready c.slots-slots.result.now c.facts-facts.result c.args.target c.args.map.now c.args.groups c.args.second.now c.enough-long.result (sym c.in_ok-check.ensures) in
     let h : length c.slots-slots.result.now ≤ length c.args.second.now = omega (arith, r.room) in
     search rules
 
@@ -47,7 +47,7 @@ fill-requires g c =
     let facts = c.facts-facts.result in
     let groups = c.args.map.now in
     let n = c.args.groups in
-    let r = ready slots facts c.args.target groups n c.args.second.now c.enough-long.result (sym c.in-ok-check.ensures) in
+    let r = ready slots facts c.args.target groups n c.args.second.now c.enough-long.result (sym c.in_ok-check.ensures) in
     let l = long_parts facts (length slots) n _ _ _ _ _ _ (sym c.enough-long.ensures ∙ r.enough) in
     let grouped = map_grouped facts groups n l.for_map r.mapped in
     let few : length slots ≤ 16000 = omega (arith, leb-true _ _ c.args.sheet.now.few, ap length c.slots-slots.ensures) in
@@ -72,7 +72,7 @@ returns g c =
     let v = c.fill.ensures in
     let done = ok_true c.fill.result tt v.answered in
     let e =
-    answer_shown shown c.facts-facts.ensures c.args.target groups n c.args.second.now c.enough-long.result _ _ _ _ _ _ c.enough-long.ensures c.in-ok-check.ensures in
+    answer_shown shown c.facts-facts.ensures c.args.target groups n c.args.second.now c.enough-long.result _ _ _ _ _ _ c.enough-long.ensures c.in_ok-check.ensures in
     let r = ready xs facts c.args.target groups n c.args.second.now _ (sym e) in
     let l = long_parts facts (length xs) n _ _ _ _ _ _ r.enough in
     let part = c.fill.new.floors in

@@ -84,5 +84,5 @@ loop-entry-preserved g c =
 
 pub returns : goal.returns
 returns g c =
-    let z : c.loop-entry.count ≡ 0 = elim c.in-default.ensures.0 [ inl e ↦ e | inr e ↦ absurd (omega (arith, e, c.loop-entry.invariant.0.queued.inside)) ] in
+    let z : c.loop-entry.count ≡ 0 = elim c.in_default.ensures.0 [ inl e ↦ e | inr e ↦ absurd (omega (arith, e, c.loop-entry.invariant.0.queued.inside)) ] in
     ended g.met.W.Measure.lawful _ _ _ _ _ _ _ _ c.loop-entry.invariant.0 z

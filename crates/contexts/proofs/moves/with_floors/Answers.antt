@@ -8,8 +8,8 @@ use Rattle.contexts.proofs.moves.with_floors.Goals as goal
 pub loop-group-init : goal.loop-group-init
 loop-group-init g c = alone g.met.W.Measure.lawful c.args.start c.requires.normal
 
-pub offset-bounds-floors-group : goal.offset-bounds-floors-group
-offset-bounds-floors-group g c = omega (arith, c.requires.within c.loop-group.group_index c.loop-group-test.true)
+pub offset_bounds-floors-group : goal.offset_bounds-floors-group
+offset_bounds-floors-group g c = omega (arith, c.requires.within c.loop-group.group_index c.loop-group-test.true)
 
 pub bounds-floors-group : goal.bounds-floors-group
 bounds-floors-group g c = c.requires.within c.loop-group.group_index c.loop-group-test.true

@@ -4,8 +4,8 @@ use Rattle.desk.specs.Numbers.{value_after, value}
 use Rattle.desk.proofs.Digits.{digits_left, from_48, value_grows, too_large, in_range}
 use Rattle.desk.proofs.number.parse_number.Goals as goal
 
-pub overflow-sub-total : goal.overflow-sub-total
-overflow-sub-total c = (from_48 _ (digits_left c.args.word.now c.loop-byte.byte-index c.loop-byte-test.true c.loop-byte.invariant.1).0).0
+pub overflow_sub-total : goal.overflow_sub-total
+overflow_sub-total c = (from_48 _ (digits_left c.args.word.now c.loop-byte.byte-index c.loop-byte-test.true c.loop-byte.invariant.1).0).0
 
 pub returns-then-total-limit : goal.returns-then-total-limit
 returns-then-total-limit c =

@@ -17,5 +17,5 @@ returns-in-0 c = search (rules, idle_second)
 pub returns-in-0-to-127 : goal.returns-in-0-to-127
 returns-in-0-to-127 c = search (rules, one_byte)
 
-pub returns-in-default : goal.returns-in-default
-returns-in-default c = search (rules, cut_at_once, cut_after_one, cut_after_two)
+pub returns-in_default : goal.returns-in_default
+returns-in_default c = search (rules, cut_at_once, cut_after_one, cut_after_two)

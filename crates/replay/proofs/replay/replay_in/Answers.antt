@@ -9,10 +9,10 @@ use Rattle.replay.proofs.Running.{scratch_again, lengths_are}
 use Rattle.replay.proofs.Starting.{left_accepted, refused_at_start, ended, ended_board}
 use Rattle.replay.proofs.replay.replay_in.Goals as goal
 
-pub returns-in-err-run_in : goal.returns-in-err-run_in
-returns-in-err-run_in g c =
-    let p = err_from_is_err_and c.from-residual.result c.from-residual.ensures.1 in
-    let v = c.in-err-run_in.ensures in
+pub returns-in_err-run_in : goal.returns-in_err-run_in
+returns-in_err-run_in g c =
+    let p = err_from_is_err_and c.from_residual.result c.from_residual.ensures.1 in
+    let v = c.in_err-run_in.ensures in
     let z = refused_at_start _ _ _ v.answered in
     record {
       answered = ap answer (p.1 ∙ ap Err p.2) ∙ z.answered _;
@@ -28,7 +28,7 @@ returns g c =
     let floor = g.G.Guide.floor c.args.guide.now in
     let rest = g.G.Guide.rest c.args.guide.now in
     let long : Lengths = record { weights = length c.args.weights.now; reasons = length c.args.reasons.now; line = length c.args.line.now; queue = length c.args.queue.now; work = length c.args.work.now } in
-    let u = c.in-ok-run_in.ensures in
+    let u = c.in_ok-run_in.ensures in
     let e = u.answered in
     let b : Board g.row.W.Denot = record { slots = c.args.slots.now; weights = c.args.weights.now; reasons = c.args.reasons.now; line = c.args.line.now } in
     let l = c.run_in.new in

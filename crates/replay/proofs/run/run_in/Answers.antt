@@ -10,15 +10,15 @@ use Rattle.replay.proofs.Starting.{start_room, start_opens, start_keeps, left_ac
 use Rattle.replay.proofs.run.run_in.Goals as goal
 
 pub make_calls-requires : goal.make_calls-requires
-make_calls-requires g c = start_room _ _ _ c.in-ok-start.ensures.answered
+make_calls-requires g c = start_room _ _ _ c.in_ok-start.ensures.answered
 
-pub returns-in-err-start : goal.returns-in-err-start
-returns-in-err-start g c =
+pub returns-in_err-start : goal.returns-in_err-start
+returns-in_err-start g c =
     let xs = c.args.slots.now in
-    let p = err_from_is_err_and c.from-residual.result c.from-residual.ensures.1 in
-    let e = c.in-err-start.ensures.answered in
+    let p = err_from_is_err_and c.from_residual.result c.from_residual.ensures.1 in
+    let e = c.in_err-start.ensures.answered in
     let b : Board g.row.W.Denot = record { slots = xs; weights = c.args.weights.now; reasons = c.args.reasons.now; line = c.args.line.now } in
-    let kept : c.start.new.slots ≡ xs = c.in-err-start.ensures.left ∙ start_keeps xs _ _ _ e in
+    let kept : c.start.new.slots ≡ xs = c.in_err-start.ensures.left ∙ start_keeps xs _ _ _ e in
     let v = left_refused _ b _ _ _ _ _ _ _ _ _ _ _ _ _ e (ap (with_slots b) kept) refl refl refl in
     record { answered = ap answer (p.1 ∙ ap Err p.2) ∙ e; leaves = v.leaves; replies = v.replies; queues = v.queues; works = v.works }
 
@@ -30,9 +30,9 @@ returns g c =
     let floor = g.G.Guide.floor in
     let rest = g.G.Guide.rest in
     let calls = c.args.calls.now in
-    let e = c.in-ok-start.ensures.answered in
+    let e = c.in_ok-start.ensures.answered in
     let b : Board g.row.W.Denot = record { slots = xs; weights = c.args.weights.now; reasons = c.args.reasons.now; line = c.args.line.now } in
-    let empty : c.start.new.slots ≡ replicate (length xs) Empty = c.in-ok-start.ensures.left ∙ start_opens xs _ _ e in
+    let empty : c.start.new.slots ≡ replicate (length xs) Empty = c.in_ok-start.ensures.left ∙ start_opens xs _ _ e in
     let same : length c.start.new.slots ≡ length xs = c.start.auto.slots in
     let v = c.make_calls.ensures in
     let z = left_accepted _ b _ _ _ _ _ _ _ _ _ _ _ e

@@ -30,17 +30,17 @@ returns-then-not-enough g c =
       works = still _ _ _;
     }
 
-pub returns-in-err-check_fit : goal.returns-in-err-check_fit
-returns-in-err-check_fit g c =
+pub returns-in_err-check_fit : goal.returns-in_err-check_fit
+returns-in_err-check_fit g c =
     let m = g.W.Measure.ops in
     let rest = g.G.Guide.rest c.args.guide.now in
     let t = c.args.target in
     let long = (same_long c.facts-facts.ensures c.slots-slots.ensures _ _ _ _ _ c.enough.ensures) ∙ c.if-not-enough.false in
-    let p = err_from_is_err_and c.from-residual.result c.from-residual.ensures.1 in
+    let p = err_from_is_err_and c.from_residual.result c.from_residual.ensures.1 in
     let e = p.1 ∙ ap Err p.2 in
-    let fit = c.in-err-check_fit.ensures.answered in
-    let a : answer c.from-residual.result ≡ refused (number c.in-err-check_fit.field-0.0) (told c.in-err-check_fit.field-0.0) = ap answer e in
-    let not_run : ran (answer c.from-residual.result) ≡ false = ap ran a ∙ unfit_number _ _ _ _ fit in
+    let fit = c.in_err-check_fit.ensures.answered in
+    let a : answer c.from_residual.result ≡ refused (number c.in_err-check_fit.field-0.0) (told c.in_err-check_fit.field-0.0) = ap answer e in
+    let not_run : ran (answer c.from_residual.result) ≡ false = ap ran a ∙ unfit_number _ _ _ _ fit in
     record {
       answered = a ∙ sym (unfit_answer _ _ _ _ _ _ _ (omega arith) long _ _ fit);
       weighs = sym (cond-false _ _ _ not_run);
@@ -66,7 +66,7 @@ returns g c =
       answered =
           v.answered
           ∙ ap (λ z. told_found (end_line m rest z t) (end m rest z t) (found_weight m t (end m rest z t))) xs
-          ∙ sym (run_told _ _ _ _ _ _ _ (omega arith) long c.in-ok-check_fit.ensures.answered);
+          ∙ sym (run_told _ _ _ _ _ _ _ (omega arith) long c.in_ok-check_fit.ensures.answered);
       weighs = column_left (weight_of m (end m rest c.args.sheet.now.slots.now t)) _ _ _ _ _ _ ran_it f k (v.weighs ∙ ap (λ z. column (weight_of m (end m rest z t)) (length (take (c.facts-facts.result - 0) c.args.weights.now))) xs);
       gives = column_left (reason_of (end m rest c.args.sheet.now.slots.now t)) _ _ _ _ _ _ ran_it f k (v.gives ∙ ap (λ z. column (reason_of (end m rest z t)) (length (take (c.facts-facts.result - 0) c.args.weights.now))) xs);
       draws = v.draws ∙ ap (λ z. after (answer c.solve.result) (λ _. end_line m rest z t ++ drop (length (end_line m rest z t)) c.args.line.now) c.args.line.now) xs;

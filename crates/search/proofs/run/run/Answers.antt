@@ -9,11 +9,11 @@ use Rattle.search.proofs.run.run.Goals as goal
 pub loop-entry-init : goal.loop-entry-init
 loop-entry-init g c = loop_start _ _ _ _ _ _ _ _ _ _ c.requires.shown c.requires.running c.requires.ready c.requires.room
 
-pub returns-in-default : goal.returns-in-default
-returns-in-default g c =
+pub returns-in_default : goal.returns-in_default
+returns-in_default g c =
     let lengths = c.loop-entry.auto.missing ∙ c.requires.long.3 in
     let within : passes (length c.loop-entry.weights) c.args.slots.now ≡ true = rw c.loop-entry.auto.weights c.requires.within in
-    let z : c.loop-entry.count ≡ 0 = elim c.in-default.ensures.0 [ inl e ↦ e | inr e ↦ absurd (omega (arith, e, c.loop-entry.invariant.ready.filled.inside)) ] in
+    let z : c.loop-entry.count ≡ 0 = elim c.in_default.ensures.0 [ inl e ↦ e | inr e ↦ absurd (omega (arith, e, c.loop-entry.invariant.ready.filled.inside)) ] in
     let out = shown_out g.met.W.Measure.lawful _ _ _ _ _ _ _ _ _ _ _ lengths within c.loop-entry.invariant z in
     record { answered = out.0; shows = out.1 }
 

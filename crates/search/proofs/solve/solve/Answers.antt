@@ -11,10 +11,10 @@ use Rattle.search.proofs.Answering.{line_is, rules_stand, order_long, weights_ar
 use Rattle.search.proofs.solve.solve.Given as given
 use Rattle.search.proofs.solve.solve.Goals as goal
 
-pub returns-in-err-counts : goal.returns-in-err-counts
-returns-in-err-counts g c =
-    let b = c.in-err-counts.ensures in
-    let p = err_from_is_err_and c.from-residual.result c.from-residual.ensures.1 in
+pub returns-in_err-counts : goal.returns-in_err-counts
+returns-in_err-counts g c =
+    let b = c.in_err-counts.ensures in
+    let p = err_from_is_err_and c.from_residual.result c.from_residual.ensures.1 in
     let m = g.W.Measure.ops in
     let rest = g.G.Guide.rest c.args.guide.now in
     let s = end m rest c.args.slots.now c.args.target in
@@ -30,7 +30,7 @@ finish-requires g c =
     let m = g.W.Measure.ops in
     let rest = g.G.Guide.rest c.args.guide.now in
     let s = end m rest c.args.slots.now c.args.target in
-    let b = c.in-ok-counts.ensures in
+    let b = c.in_ok-counts.ensures in
     let k = told_in m s c.args.target _ b.answered in
     let w = c.explore.auto.weights in
     record {
@@ -50,7 +50,7 @@ returns g c =
     let m = g.W.Measure.ops in
     let rest = g.G.Guide.rest c.args.guide.now in
     let s = end m rest c.args.slots.now c.args.target in
-    let b = c.in-ok-counts.ensures in
+    let b = c.in_ok-counts.ensures in
     let k = told_in m s c.args.target _ b.answered in
     record {
       answered = found_told m _ _ _ _ _ _ _ b.shows k _ c.finish.ensures.answered;

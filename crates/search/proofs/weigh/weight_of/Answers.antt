@@ -18,8 +18,8 @@ whole_body {m = m} laws r ws = ap (λ e. m.join e (joined m (map (held m ws) (bo
 pub loop-fact-init : goal.loop-fact-init
 loop-fact-init g c = c.effort-weight.ensures ∙ effort_alone g.met.W.Measure.lawful c.args.rule.now.cost
 
-pub offset-bounds-weights-fact : goal.offset-bounds-weights-fact
-offset-bounds-weights-fact g c =
+pub offset_bounds-weights-fact : goal.offset_bounds-weights-fact
+offset_bounds-weights-fact g c =
     let e = rw (sym c.body-fact-items.ensures) at c.requires in
     omega (arith, below_at _ _ _ e c.loop-fact-test.true)
 

@@ -13,7 +13,7 @@ bounds c = omega (arith, count_bound c.args.slots.now)
 pub bounds-slots-number : goal.bounds-slots-number
 bounds-slots-number c = omega (arith, count_bound c.args.slots.now)
 
-pub returns-in-default : goal.returns-in-default
-returns-in-default c =
+pub returns-in_default : goal.returns-in_default
+returns-in_default c =
     let h : c.args.number < count c.args.slots.now = omega arith in
-    absurd (c.in-default.not-Full _ (entered_at _ _ h))
+    absurd (c.in_default.not-Full _ (entered_at _ _ h))

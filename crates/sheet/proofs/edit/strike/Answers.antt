@@ -5,4 +5,4 @@ use Rattle.sheet.proofs.edit.strike.Goals as goal
 
 pub bounds-slots-number : goal.bounds-slots-number
 bounds-slots-number c =
-    omega (arith, standing_within c.args.slots.now c.args.number _ _ c.in-ok-rule.ensures, count_bound c.args.slots.now)
+    omega (arith, standing_within c.args.slots.now c.args.number _ _ c.in_ok-rule.ensures, count_bound c.args.slots.now)

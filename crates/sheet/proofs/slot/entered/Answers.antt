@@ -15,7 +15,7 @@ returns-in-Empty c =
 
 pub loop-i-preserved : goal.loop-i-preserved
 loop-i-preserved c =
-    let e = fulls_full _ _ _ _ c.loop-i-test.true c.in-default.is in
+    let e = fulls_full _ _ _ _ c.loop-i-test.true c.in_default.is in
     omega (arith, e, c.loop-i.invariant)
 
 pub returns : goal.returns
