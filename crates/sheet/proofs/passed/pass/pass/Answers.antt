@@ -18,7 +18,7 @@ invariant_of-view c =
     let h = counted _ _ _ _ c.used-slots.ensures c.in_ok-count.ensures in
     let m = c.in_ok-count.count - 0 in
     let few = le-leb (length (take m c.used-slots.result.now)) 16000 (omega (arith, h.few, length-take m c.used-slots.result.now)) in
-    (h.within_facts, (few, (le-leb _ _ c.if-facts-gt-FACT_LIMIT.false, tt)))
+    record { within = h.within_facts; few = few; small = le-leb _ _ c.if-facts-gt-FACT_LIMIT.false }
 
 pub returns : goal.returns
 returns c =
