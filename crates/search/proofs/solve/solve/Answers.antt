@@ -36,10 +36,10 @@ finish-requires g c =
     record {
       known = (
         omega (arith, c.requires.few.2, w),
-        c.split_at_mut-needed.ensures.front-len ∙ sym w,
+        c.split_at_mut-needed.ensures.front_len ∙ sym w,
         omega (arith, k.closed_is, order_long m _ _ _ _ _ _ _ b.shows),
-        omega (arith, c.explore.auto.order, c.split_at_mut-order.ensures.front-len, c.requires.few.1),
-        omega (arith, c.explore.auto.order, c.split_at_mut-order.ensures.front-len, c.requires.long.1),
+        omega (arith, c.explore.auto.order, c.split_at_mut-order.ensures.front_len, c.requires.few.1),
+        omega (arith, c.explore.auto.order, c.split_at_mut-order.ensures.front_len, c.requires.long.1),
       );
       within = subst (λ (n : ℕ). passes n c.args.slots.now ≡ true) (sym w) c.requires.within;
       stand = subst (λ (n : ℕ). All (λ r. (r < length c.args.slots.now) × ((rule_at c.args.slots.now r).struck ≡ false)) (take n c.explore.new.order)) (sym k.closed_is) (rules_stand m _ _ _ _ _ _ _ b.shows);
