@@ -20,6 +20,7 @@ use desk::Desk;
 use failure::Failure;
 use input::{INPUT_LIMIT, read_input};
 use pieces::split;
+use std::process::ExitCode;
 
 fn run(rt: &HostRuntime) -> Result<(), Failure> {
     let bytes = read_input(rt)?;
@@ -31,12 +32,21 @@ fn run(rt: &HostRuntime) -> Result<(), Failure> {
     desk.finish(rt)
 }
 
-fn main(rt: HostRuntime) -> Result<(), Failure> {
-    match run(&rt) {
+// Answers the input, or says that it is too long.
+fn answer(rt: &HostRuntime) -> Result<(), Failure> {
+    match run(rt) {
         Err(Failure::Long) => {
             println!(rt; "the input is longer than {INPUT_LIMIT} bytes")?;
             Err(Failure::Long)
         }
         done => done,
+    }
+}
+
+// A failure ends the program with status 1.
+fn main(rt: HostRuntime) -> ExitCode {
+    match answer(&rt) {
+        Ok(()) => ExitCode::SUCCESS,
+        Err(_) => ExitCode::FAILURE,
     }
 }

@@ -9,14 +9,16 @@ mod report;
 use failure::Failure;
 use input::read_input;
 use report::{Report, grade_file};
+use std::process::ExitCode;
 
 fn run(rt: &HostRuntime) -> Result<Report, Failure> {
     let bytes = read_input(rt)?;
     grade_file(rt.alloc(), &bytes)
 }
 
-fn main(rt: HostRuntime) -> Result<(), Failure> {
-    match run(&rt) {
+// Prints the grades, or the number of the refusal.
+fn answer(rt: &HostRuntime) -> Result<(), Failure> {
+    match run(rt) {
         Ok(report) => print!(rt; "{report}")?,
         Err(Failure::Refused(refusal)) => {
             let number = refusal.number();
@@ -26,4 +28,12 @@ fn main(rt: HostRuntime) -> Result<(), Failure> {
         Err(failure) => return Err(failure),
     }
     Ok(())
+}
+
+// A failure ends the program with status 1.
+fn main(rt: HostRuntime) -> ExitCode {
+    match answer(&rt) {
+        Ok(()) => ExitCode::SUCCESS,
+        Err(_) => ExitCode::FAILURE,
+    }
 }
