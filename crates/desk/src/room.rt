@@ -38,6 +38,17 @@ impl<W: Measure + Clone> Room<W> {
         })
     }
 
+    // Columns of no places, which a list with no searches needs.
+    pub(crate) fn empty(heap: Global) -> Room<W> {
+        Room {
+            weights: Vec::new(heap),
+            reasons: Vec::new(heap),
+            line: Vec::new(heap),
+            queue: Vec::new(heap),
+            work: Vec::new(heap),
+        }
+    }
+
     pub(crate) fn columns(&mut self) -> Columns<'_, W> {
         Columns {
             weights: &mut self.weights,

@@ -11,7 +11,6 @@ use measure::Measure;
 use replay::call::{Call, Reply};
 use replay::replay::replay;
 use replay::run::run;
-use search::columns::Columns;
 use sheet::slot::Slot;
 use std::alloc::{AllocError, Global};
 
@@ -53,14 +52,8 @@ pub(crate) fn run_edits<'a, W: Measure + Clone>(
     add_calls(edits, &mut calls)?;
     let mut slots = vec![in heap; Slot::Empty; RULES]?;
     let mut replies = vec![in heap; Reply::Changed; edits.len()]?;
-    let columns = Columns {
-        weights: &mut [],
-        reasons: &mut [],
-        line: &mut [],
-        queue: &mut [],
-        work: &mut [],
-    };
-    run(&calls, &mut slots, &mut replies, columns)?;
+    let mut room = Room::empty(heap);
+    run(&calls, &mut slots, &mut replies, room.columns())?;
     Ok(Edited { replies, slots })
 }
 
