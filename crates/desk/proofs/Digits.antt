@@ -4,7 +4,7 @@ use Rattle.std.specs.Char.{is_ascii_digit}
 use Rattle.std.proofs.lemmas.List.{at_drop_more}
 use Rattle.std.proofs.lemmas.Bool.{both_ways, lt-ltb, le-ltb}
 use Rattle.std.proofs.lemmas.Bool.Decides.{nat_tests}
-use Rattle.desk.specs.declared.number.Wrong.TheVariants.{Form, Large}
+use Rattle.desk.specs.declared.number.Wrong.TheVariants.{Large}
 use Rattle.desk.specs.Numbers.{all_digits, value_after, value, number}
 
 pub digit_here : (xs : List ℕ) (i : ℕ) → i < length xs → is_ascii_digit (get_or xs i 0) ≡ true → all_digits (drop i xs) ≡ all_digits (drop (i + 1) xs)

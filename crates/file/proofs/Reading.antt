@@ -1,5 +1,5 @@
 -- The answer and the slots, from what each part of the file gave.
-use Rattle.std.proofs.Common.{◌≡◌, ℕ, ◌-◌, ◌≤◌, true, List, length, is_ok, Ok, Err, Result, sym, refl, ap, ◌∙◌, arith}
+use Rattle.std.proofs.Common.{◌≡◌, ℕ, ◌≤◌, true, List, length, is_ok, Ok, Err, Result, sym, refl, ap, ◌∙◌, arith}
 use Rattle.sheet.specs.declared.slot.Slot.{Slot}
 use Rattle.sheet.specs.Slots.{free}
 use Rattle.file.specs.declared.fault.Field.TheVariants as field

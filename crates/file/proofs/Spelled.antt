@@ -3,7 +3,7 @@ use Rattle.std.proofs.Common.{◌≡◌, ℕ, suc, ◌+◌, ◌-◌, ◌*◌, �
 use Rattle.std.proofs.lemmas.List.{take_all}
 use Rattle.std.proofs.lemmas.Bool.{cond-true, cond-false, lt-ltb, le-ltb, le-leb, lt-leb, eq-eqb, ne_eqb, or_left, or_right, or_from}
 use Rattle.file.specs.Faults.{cut, malformed}
-use Rattle.file.specs.Number.{number, first, second, third}
+use Rattle.file.specs.Number.{number, second, third}
 
 pub cut_at_once : (xs : List ℕ) → length xs < 1 → Err cut ≡ number xs
 unfolding number

@@ -1,5 +1,5 @@
 -- A whole file: fact count, target, number of rules, the rules, and nothing after them.
-use Rattle.std.specs.Prelude.{ℕ, ◌-◌, cond, List, [], ◌∷◌, length, Ok, Err, Result, nat_lt}
+use Rattle.std.specs.Prelude.{ℕ, cond, List, [], ◌∷◌, length, Ok, Err, Result, nat_lt}
 use Rattle.std.specs.Borrow.{Bor}
 use Rattle.sheet.specs.declared.slot.Slot.{Slot}
 use Rattle.sheet.specs.Refusals.{Answer, accepted, refused}

@@ -1,5 +1,5 @@
 -- Hardest: the largest cost of all.
-use Rattle.std.specs.Prelude.{ℕ, min, max, leb, nat_le}
+use Rattle.std.specs.Prelude.{ℕ, min, max, nat_le}
 use Rattle.measure.specs.declared.hardest.Hardest.{Hardest}
 use Rattle.measure.specs.Ops.{Ops, cost_limit}
 

@@ -1,5 +1,5 @@
 -- Total: the sum of all costs, held at a thousand million.
-use Rattle.std.specs.Prelude.{ℕ, ◌+◌, min, Bool, cond, leb, nat_le}
+use Rattle.std.specs.Prelude.{ℕ, ◌+◌, min, nat_le}
 use Rattle.measure.specs.declared.total.Total.{Total}
 use Rattle.measure.specs.Ops.{Ops, cost_limit}
 

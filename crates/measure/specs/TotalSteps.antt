@@ -1,5 +1,5 @@
 -- Total-steps: the sum of all costs and the number of rules, compared by the sum first.
-use Rattle.std.specs.Prelude.{ℕ, ◌+◌, min, Bool, cond, ◌&&◌, ◌||◌, leb, ◌==◌, nat_le, nat_lt}
+use Rattle.std.specs.Prelude.{ℕ, ◌+◌, min, Bool, cond, ◌&&◌, ◌||◌, ◌==◌, nat_le, nat_lt}
 use Rattle.measure.specs.declared.total_steps.TotalSteps.{TotalSteps}
 use Rattle.measure.specs.Ops.{Ops, cost_limit}
 use Rattle.measure.specs.Total.{total_limit}

@@ -1,6 +1,5 @@
 -- A run goes on right, one put or take at a time.
-use Rattle.std.proofs.Common.{◌≡◌, ℕ, zero, suc, ◌+◌, ◌-◌, ◌<◌, ◌≤◌, Bool, true, ◌≢◌, List, [], ◌∷◌, ◌++◌, length, get_or, take, drop, set, sym, refl, ap, ◌∙◌, subst, ⊎_elim, arith, below_more}
-use Rattle.std.specs.List.{ContainsAt as Has, AllByRecursion as All}
+use Rattle.std.proofs.Common.{◌≡◌, ℕ, ◌+◌, ◌-◌, ◌<◌, ◌≤◌, Bool, List, [], ◌∷◌, ◌++◌, length, get_or, take, drop, set, sym, refl, ap, ◌∙◌, subst, arith, below_more}
 use Rattle.std.specs.List.Sorted.{IsPermutation}
 use Rattle.std.proofs.lemmas.List.{append-nil, append_assoc, length-set, length-take-le, take_more, take_more_set, take_all, take-set-le, take-set, drop-set-lt, drop-drop, get_or_read, get_or-set_same, get_or-set_other}
 use Rattle.std.proofs.lemmas.List.Sorted.{IsPermutation-sym, IsPermutation-trans, IsPermutation-to_front}
@@ -8,7 +7,7 @@ use Rattle.std.proofs.ByRecursion.{has_shuffled}
 use Rattle.queue.specs.declared.run.Op.{Op}
 use Rattle.queue.specs.declared.run.Op.TheVariants.{Put, Take}
 use Rattle.queue.specs.declared.run.Reply.{Reply}
-use Rattle.queue.specs.declared.run.Reply.TheVariants.{Added, Refused, Taken, Empty}
+use Rattle.queue.specs.declared.run.Reply.TheVariants.{Added, Taken, Empty}
 use Rattle.queue.specs.Heap as heap
 use Rattle.queue.proofs.Shuffles.{shuffled_front, shuffled_behind}
 use Rattle.queue.specs.Run.{entered, put_in, left, taken_out, Holds, Right, RightUntil, Made, Ready, Step}

@@ -1,12 +1,11 @@
 -- The laws of an entry's order, from those of its measure.
-use Rattle.std.specs.Prelude.{◌≡◌, ℕ, ◌≤◌, Bool, true, false, cond, ◌⊎◌, nat_le, refl}
-use Rattle.std.proofs.Common.{sym, ap, ◌∙◌, inl, inr, ⊎_elim, arith}
+use Rattle.std.specs.Prelude.{◌≡◌, ℕ, Bool, true, false, ◌⊎◌, nat_le, refl}
+use Rattle.std.proofs.Common.{◌∙◌, inl, inr, arith}
 use Rattle.std.proofs.lemmas.Bool.{false≢true}
 use Rattle.std.proofs.lemmas.Bool.Decides.{nat_tests}
 use Rattle.measure.specs.Ops.{Ops, Laws}
 use Rattle.queue.specs.Linear.{Linear, Apart}
 use Rattle.queue.specs.Entry.{before, entry_leb, entry_canon}
-use Rattle.queue.specs.declared.entry.Entry.{Entry}
 
 -- one key in front of the next keeps each law
 before_total : (ab ba s t : Bool) → (ab ≡ true) ⊎ (ba ≡ true) → (s ≡ true) ⊎ (t ≡ true) → (before ab ba s ≡ true) ⊎ (before ba ab t ≡ true)

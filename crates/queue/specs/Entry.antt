@@ -1,5 +1,5 @@
 -- The order of entries.
-use Rattle.std.specs.Prelude.{ℕ, Bool, true, false, cond, nat_le}
+use Rattle.std.specs.Prelude.{Bool, true, false, cond, nat_le}
 use Rattle.measure.specs.Ops.{Ops}
 use Rattle.queue.specs.declared.entry.Entry.{Entry}
 

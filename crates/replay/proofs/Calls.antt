@@ -1,5 +1,5 @@
 -- What each call is replied and leaves, by its kind.
-use Rattle.std.proofs.Common.{◌≡◌, ℕ, List, sym, refl, ap, ◌∙◌, Bor}
+use Rattle.std.proofs.Common.{◌≡◌, ℕ, List, sym, ap, ◌∙◌, Bor}
 use Rattle.measure.specs.Ops.{Ops}
 use Rattle.sheet.specs.declared.slot.Slot.{Slot}
 use Rattle.sheet.specs.Refusals.{Answer}
@@ -9,7 +9,7 @@ use Rattle.search.specs.Left.{weights_left, reasons_left, line_left}
 use Rattle.replay.specs.declared.call.Call.{Call}
 use Rattle.replay.specs.declared.call.Call.TheVariants.{Enter, Reprice, Strike, Search}
 use Rattle.replay.specs.Replies.{Given, entered, changed, found, giving}
-use Rattle.replay.specs.Run.{Board, Lengths, with_slots, shown, sought, found_on, searched, replied, next}
+use Rattle.replay.specs.Run.{Board, Lengths, with_slots, shown, sought, replied, next}
 
 pub board_is : {W : Type 0} (xs : List Slot) (ws vs : List W) (rs us ls ks : List ℕ) → ws ≡ vs → rs ≡ us → ls ≡ ks
     → ◌≡◌ {A = Board W} (record { slots = xs; weights = ws; reasons = rs; line = ls }) (record { slots = xs; weights = vs; reasons = us; line = ks })

@@ -1,23 +1,22 @@
 -- Edits of a tidy sheet: which are accepted, and what they leave.
-use Rattle.std.proofs.Common.{◌≡◌, ℕ, ◌+◌, ◌<◌, ◌≤◌, Bool, true, false, cond, not, ◌&&◌, ltb, leb, ◌⊎◌, List, [], ◌∷◌, ◌++◌, map, length, set, replicate, sym, refl, ap, ◌∙◌, subst, inl, inr, arith}
-use Rattle.std.proofs.lemmas.Bool.{both_ways, not-true, not-false, cases_Bool, cases_lt, and_parts, and_from, ltb-true, ltb-false, leb-true, lt-ltb, le-ltb, le-leb, cond-true, cond-false}
-use Rattle.std.proofs.lemmas.Bool.Decides.{nat_tests}
+use Rattle.std.proofs.Common.{◌≡◌, ℕ, ◌<◌, ◌≤◌, Bool, true, false, cond, ◌&&◌, ltb, leb, List, [], ◌∷◌, ◌++◌, length, set, sym, refl, ap, ◌∙◌, subst, inl, inr, arith}
+use Rattle.std.proofs.lemmas.Bool.{both_ways, not-true, not-false, cases_Bool, cases_lt, and_parts, and_from, ltb-true, leb-true, lt-ltb, le-ltb, le-leb, cond-true, cond-false}
 use Rattle.measure.specs.Ops.{Ops}
 use Rattle.sheet.specs.declared.slot.Slot.{Slot}
-use Rattle.sheet.specs.declared.slot.Slot.TheVariants.{Empty, Full}
+use Rattle.sheet.specs.declared.slot.Slot.TheVariants.{Full}
 use Rattle.sheet.specs.Refusals.{Answer, accepted, refused, after, Told}
-use Rattle.sheet.specs.Rules.{Inference, read, made, marked}
-use Rattle.sheet.specs.Slots.{count, free, sheet, rule_at}
+use Rattle.sheet.specs.Rules.{Inference, made, marked}
+use Rattle.sheet.specs.Slots.{count, rule_at}
 use Rattle.sheet.specs.Edits.{cost_answer, enter_answer, standing_answer, reprice_answer, strike_answer, repriced}
 use Rattle.sheet.proofs.Edits.{enter_full, enter_fits, standing_unknown, standing_struck, standing_here}
 use Rattle.replay.specs.declared.call.Call.{Call}
 use Rattle.replay.specs.declared.call.Call.TheVariants.{Enter, Reprice, Strike, Search}
 use Rattle.replay.specs.Replies.{Given, entered, changed, giving}
-use Rattle.replay.specs.Rules.{inference_at, stands, allowed, edited, priced, stricken, rules_from, rules_after}
-use Rattle.replay.specs.Run.{Board, Lengths, slots_next, slots_from, slots_after, replied, next, board_after, replies_to}
+use Rattle.replay.specs.Rules.{inference_at, stands, allowed, edited, priced, stricken, rules_from}
+use Rattle.replay.specs.Run.{Board, Lengths, slots_next, slots_from, replied, next, board_after, replies_to}
 use Rattle.replay.specs.Law.{Judged, edit_gives, is_edit, JudgedAll}
 use Rattle.replay.specs.Whole.{Unedited}
-use Rattle.replay.proofs.Tidy.{Tidy, tidy_count, tidy_free, tidy_rule, tidy_enter, tidy_change, tidy_new, none_beyond, read_repriced}
+use Rattle.replay.proofs.Tidy.{Tidy, tidy_count, tidy_free, tidy_rule, tidy_enter, tidy_change, none_beyond, read_repriced}
 
 abbrev Refused : {A : Type 0} → Answer A → Type 0
 Refused a = (k : ℕ) × (vs : List Told) × (a ≡ refused k vs)

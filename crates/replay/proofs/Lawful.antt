@@ -1,5 +1,5 @@
 -- The law of edits, and the whole promise, of a run that was started.
-use Rattle.std.proofs.Common.{◌≡◌, ℕ, ◌≤◌, List, [], map, length, take, replicate, sym, refl, ap, ◌∙◌, subst}
+use Rattle.std.proofs.Common.{◌≡◌, ℕ, ◌≤◌, List, [], map, length, take, sym, ap, ◌∙◌, subst}
 use Rattle.measure.specs.Ops.{Ops, Laws}
 use Rattle.search.specs.declared.columns.Found.{Found}
 use Rattle.search.specs.Answered.{checked}

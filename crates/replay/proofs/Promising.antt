@@ -1,8 +1,7 @@
 -- The whole promise, from the search's own promise and the rules that a list leaves.
-use Rattle.std.proofs.Common.{◌≡◌, ℕ, zero, suc, ◌+◌, ◌<◌, ◌≤◌, Bool, true, false, cond, not, ◌&&◌, ◌||◌, eqb, ltb, leb, List, [], ◌∷◌, ◌++◌, map, length, get_or, replicate, Some, None, Option, sym, refl, ap, ◌∙◌, subst, add-one, arith}
+use Rattle.std.proofs.Common.{◌≡◌, ℕ, zero, suc, ◌<◌, ◌≤◌, Bool, true, false, not, ◌&&◌, ◌||◌, eqb, ltb, List, [], ◌∷◌, ◌++◌, map, length, get_or, replicate, Some, None, Option, sym, refl, ap, ◌∙◌, subst, arith}
 use lib.ListN.{length-map}
 use Rattle.std.specs.List.{AllByRecursion as All}
-use Rattle.std.proofs.lemmas.List.{take_all}
 use Rattle.std.proofs.lemmas.Bool.{and_from, or_from, lt-ltb, le-ltb, le-leb, ne_eqb, cond-true, cond-false}
 use Rattle.measure.specs.Ops.{Ops, Laws}
 use Rattle.sheet.specs.declared.rule.Rule.{Rule}
@@ -10,13 +9,12 @@ use Rattle.sheet.specs.declared.slot.Slot.{Slot}
 use Rattle.sheet.specs.declared.slot.Slot.TheVariants.{Empty, Full}
 use Rattle.sheet.specs.Refusals.{Answer, accepted, refused, verdict, Told, closed, taken}
 use Rattle.sheet.specs.Rules.{Inference, body_of, read, all_below, within}
-use Rattle.sheet.specs.Slots.{used, passes}
+use Rattle.sheet.specs.Slots.{passes}
 use Rattle.sheet.specs.Passing.{scan, pass_answer}
 use Rattle.derivation.specs.Rules as theory
-use Rattle.derivation.specs.Trees.{Derivable, Lightest}
-use Rattle.derivation.specs.Fit.{Fit, check_fit, fits}
+use Rattle.derivation.specs.Trees.{Derivable}
+use Rattle.derivation.specs.Fit.{Fit}
 use Rattle.derivation.specs.Search.{State, answer, closed_count, taken_count}
-use Rattle.derivation.specs.Line.{line_tree}
 use Rattle.derivation.proofs.Answered.{lightest_unique}
 use Rattle.derivation.proofs.Checked.{decided_at}
 use Rattle.derivation.proofs.Guides.{heavier_fits}
@@ -24,12 +22,12 @@ use Rattle.guide.specs.Fit.{fit_answer}
 use Rattle.guide.specs.Weighted.{weighted}
 use Rattle.abstraction.proofs.Fits.{made_fits}
 use Rattle.search.specs.declared.columns.Found.{Found}
-use Rattle.search.specs.Answered.{long_enough, search_answer, checked, told_found, end, end_line, ran, work_length}
+use Rattle.search.specs.Answered.{long_enough, search_answer, checked, told_found, end, end_line, ran}
 use Rattle.search.specs.Left.{weights_left, reasons_left, line_left}
-use Rattle.search.specs.PromiseOver.{KeptOver, PromiseOver}
+use Rattle.search.specs.PromiseOver.{PromiseOver}
 use Rattle.search.proofs.Promised.{promised_over}
 use Rattle.replay.specs.declared.call.Call.{Call}
-use Rattle.replay.specs.Rules.{rules_after, rules_from, weighing, weighted_after}
+use Rattle.replay.specs.Rules.{rules_after, weighing, weighted_after}
 use Rattle.replay.specs.Run.{Lengths, shown, sought, slots_after}
 use Rattle.replay.specs.Whole.{InOrder, Same, Unedited, Whole}
 use Rattle.replay.proofs.Seeking.{sought_passed}

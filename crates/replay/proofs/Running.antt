@@ -1,10 +1,8 @@
 -- A list of calls goes on, one call at a time.
-use Rattle.std.proofs.Common.{◌≡◌, ℕ, ◌+◌, ◌<◌, ◌≤◌, true, false, List, [], ◌∷◌, ◌++◌, map, length, get_or, take, drop, set, sym, refl, ap, ◌∙◌, subst, arith}
-use Rattle.std.proofs.lemmas.List.{append-nil, append_assoc, map-append, length-set, take_more_set, take_all, drop-set-lt, drop-drop, at_drop_more, at_drop_all}
+use Rattle.std.proofs.Common.{◌≡◌, ℕ, ◌+◌, ◌<◌, ◌≤◌, true, List, [], ◌∷◌, ◌++◌, map, length, get_or, take, drop, set, sym, refl, ap, ◌∙◌, arith}
+use Rattle.std.proofs.lemmas.List.{append-nil, append_assoc, map-append, length-set, take_more_set, drop-set-lt, drop-drop, at_drop_more, at_drop_all}
 use Rattle.std.proofs.lemmas.Bool.{both_ways}
 use Rattle.measure.specs.Ops.{Ops}
-use Rattle.queue.specs.declared.entry.Entry.{Entry}
-use Rattle.search.specs.Answered.{work_length}
 use Rattle.search.specs.Left.{Scratch}
 use Rattle.sheet.specs.Refusals.{Answer}
 use Rattle.replay.specs.declared.call.Call.{Call}

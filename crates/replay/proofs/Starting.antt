@@ -1,6 +1,6 @@
 -- What a run leaves where it is refused at its start, and where it is not.
-use Rattle.std.proofs.Common.{◌≡◌, ℕ, ◌<◌, ◌≤◌, Bool, true, false, cond, ltb, List, [], ◌∷◌, length, drop, replicate, sym, refl, ap, ◌∙◌, subst, arith}
-use Rattle.std.proofs.lemmas.Bool.{cond-true, cond-false, le-ltb, lt-ltb}
+use Rattle.std.proofs.Common.{◌≡◌, ℕ, ◌<◌, ◌≤◌, true, ltb, List, [], length, drop, replicate, sym, refl, ap, ◌∙◌, subst, arith}
+use Rattle.std.proofs.lemmas.Bool.{cond-false, le-ltb}
 use Rattle.std.proofs.lemmas.Bool.Decides.{nat_tests}
 use Rattle.measure.specs.Ops.{Ops}
 use Rattle.queue.specs.declared.entry.Entry.{Entry}
@@ -11,12 +11,10 @@ use Rattle.sheet.specs.declared.slot.Slot.{Slot}
 use Rattle.sheet.specs.declared.slot.Slot.TheVariants.{Empty}
 use Rattle.sheet.specs.Refusals.{Answer, accepted, refused, after, Told}
 use Rattle.sheet.specs.Edits.{open_answer, open_slots}
-use Rattle.replay.specs.declared.call.Call.{Call}
 use Rattle.replay.specs.declared.call.Reply.{Reply}
 use Rattle.replay.specs.Replies.{Given}
-use Rattle.replay.specs.Run.{Board, Lengths, start_answer, is_accepted, opened, sought, found_on, searched, Written}
+use Rattle.replay.specs.Run.{Board, Lengths, start_answer, is_accepted, sought, found_on, searched, Written}
 use Rattle.replay.proofs.Calls.{left_by}
-use Rattle.replay.proofs.Running.{scratch_again}
 
 pub start_small : (n k r : ℕ) → accepted tt ≡ start_answer n k r → n ≤ 16000
 start_small n k r e = grind (arith, nat_tests)

@@ -1,18 +1,17 @@
 -- Sheets that were opened and only edited: rules fill the first slots, and the others are empty.
-use Rattle.std.proofs.Common.{◌≡◌, ℕ, zero, suc, ◌+◌, ◌-◌, ◌<◌, ◌≤◌, min, Bool, true, false, cond, not, ◌&&◌, List, [], ◌∷◌, ◌++◌, map, length, get_or, take, drop, set, replicate, sym, refl, ap, ◌∙◌, subst, arith, length-append}
+use Rattle.std.proofs.Common.{◌≡◌, ℕ, zero, suc, ◌+◌, ◌-◌, ◌<◌, ◌≤◌, min, true, false, List, [], ◌∷◌, ◌++◌, map, length, take, set, replicate, sym, refl, ap, ◌∙◌, arith, length-append}
 use lib.ListN.{length-map, length-replicate}
-use Rattle.std.proofs.lemmas.List.{take_all, take_at, take-take, map-append, map-set, length-set}
+use Rattle.std.proofs.lemmas.List.{take_all, take_at, map-append, map-set, length-set}
 use Rattle.measure.specs.Ops.{Ops}
 use Rattle.sheet.specs.declared.rule.Rule.{Rule}
 use Rattle.sheet.specs.declared.slot.Slot.{Slot}
 use Rattle.sheet.specs.declared.slot.Slot.TheVariants.{Empty, Full}
-use Rattle.sheet.specs.Rules.{Inference, body_of, read, made, marked}
-use Rattle.sheet.specs.Slots.{used, fulls, empties, count, free, front, sheet, rule_in, rule_at}
+use Rattle.sheet.specs.Rules.{Inference, body_of, read, made}
+use Rattle.sheet.specs.Slots.{used, fulls, empties, count, free, front, sheet, rule_at}
 use Rattle.sheet.specs.Edits.{repriced}
-use Rattle.derivation.specs.Rules as theory
 use Rattle.guide.specs.Weighted.{weigh, weighted}
 use Rattle.abstraction.proofs.Reading.{made_body}
-use Rattle.replay.specs.Rules.{inference_at, priced, stricken, weighing}
+use Rattle.replay.specs.Rules.{inference_at, priced, weighing}
 use Rattle.replay.specs.Run.{shown}
 
 -- rules, and then so many empty slots

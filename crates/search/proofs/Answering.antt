@@ -1,5 +1,5 @@
 -- From the columns of a finished search to what the definitions give.
-use Rattle.std.proofs.Common.{◌≡◌, ℕ, ◌<◌, ◌≤◌, Bool, true, false, cond, List, [], ◌∷◌, ◌++◌, map, reverse, length, get_or, take, drop, Some, None, Ok, Err, Result, sym, refl, ap, ◌∙◌, subst, arith, length-take}
+use Rattle.std.proofs.Common.{◌≡◌, ℕ, ◌<◌, ◌≤◌, Bool, true, false, cond, List, [], ◌∷◌, ◌++◌, map, reverse, length, get_or, take, drop, Some, None, Ok, Err, Result, sym, refl, ap, ◌∙◌, arith, length-take}
 use mathlib.Core.List.{reverse-reverse, reverse-cons}
 use Rattle.std.specs.List.{AllByRecursion as All}
 use Rattle.std.proofs.lemmas.List.FromFn.{fill_by_all}
@@ -12,8 +12,7 @@ use Rattle.sheet.specs.declared.refusal.Refusal.TheVariants.{OutOfReach}
 use Rattle.sheet.specs.Refusals.{accepted, refused, number, told}
 use Rattle.sheet.specs.Rules.{body_of}
 use Rattle.sheet.specs.Slots.{rule_at}
-use Rattle.derivation.specs.Rules as theory
-use Rattle.derivation.specs.Search.{Closed, State, among, no_reason, is_closed, weight_in, weight_of, reason_of, closed_count, taken_count, answer as found_weight}
+use Rattle.derivation.specs.Search.{Closed, State, no_reason, is_closed, weight_in, weight_of, reason_of, closed_count, taken_count, answer as found_weight}
 use Rattle.derivation.specs.Line.{unwound, line}
 use Rattle.guide.specs.Weighted.{weighted}
 use Rattle.search.specs.Unwound.{unwound_rules, drawn_line}

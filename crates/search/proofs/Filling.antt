@@ -1,14 +1,14 @@
 -- Putting an entry into a filled queue, and taking one out.
-use Rattle.std.proofs.Common.{◌≡◌, ℕ, zero, suc, ◌+◌, ◌-◌, ◌<◌, ◌≤◌, Bool, true, false, cond, not, ◌&&◌, ◌||◌, eqb, ◌⊎◌, List, [], ◌∷◌, length, take, sum_by, count_by, sym, refl, ap, ◌∙◌, subst, inl, inr, arith}
+use Rattle.std.proofs.Common.{◌≡◌, ℕ, ◌+◌, ◌-◌, ◌<◌, ◌≤◌, Bool, true, false, cond, not, ◌&&◌, ◌||◌, eqb, List, [], ◌∷◌, take, count_by, sym, refl, ap, ◌∙◌, inl, inr, arith}
 use Rattle.std.specs.List.{AllByRecursion as All}
 use Rattle.std.proofs.lemmas.List.Sums.{sum_by-cons}
 use Rattle.std.proofs.lemmas.List.Sorted.{sum_by-IsPermutation}
 use Rattle.std.proofs.ByRecursion.{all_shuffled}
-use Rattle.std.proofs.lemmas.Bool.{cases_Bool, both_ways, eqb-true, eqb-false, eq-eqb}
+use Rattle.std.proofs.lemmas.Bool.{cases_Bool, eqb-true, eq-eqb}
 use Rattle.measure.specs.Ops.{Ops}
 use Rattle.queue.specs.declared.entry.Entry.{Entry}
 use Rattle.queue.specs.Entry.{entry_leb}
-use Rattle.queue.specs.Heap.{Heap, Added, Removed}
+use Rattle.queue.specs.Heap.{Added, Removed}
 use Rattle.search.specs.Waiting.{Filled}
 
 -- 1 for true, 0 for false

@@ -1,12 +1,12 @@
 -- Which entry the definition takes: the one that precedes all others.
-use Rattle.std.proofs.Common.{◌≡◌, ℕ, zero, suc, ◌+◌, ◌-◌, ◌<◌, ◌≤◌, Bool, true, false, cond, ◌⊎◌, List, length, Some, None, Option, sym, refl, ap, ◌∙◌, inl, inr, arith}
-use Rattle.std.proofs.lemmas.Bool.{cases_eq, cases_Bool, both_ways, cases_lt}
+use Rattle.std.proofs.Common.{◌≡◌, ℕ, zero, suc, ◌+◌, ◌-◌, ◌<◌, ◌≤◌, Bool, true, false, cond, List, length, Some, None, Option, sym, refl, ap, ◌∙◌, inl, inr, arith}
+use Rattle.std.proofs.lemmas.Bool.{cases_eq, cases_Bool}
 use Rattle.measure.specs.Ops.{Ops, Laws}
 use Rattle.queue.specs.declared.entry.Entry.{Entry}
 use Rattle.queue.specs.Entry.{entry_leb}
 use Rattle.queue.specs.Entries.{entry_apart}
 use Rattle.derivation.specs.Rules.{Rule}
-use Rattle.derivation.specs.Search.{State, first, queued, entry, candidate, least, reached, after, take_entry, step, onward, run, final}
+use Rattle.derivation.specs.Search.{State, first, queued, entry, candidate, least, reached, take_entry, step, run}
 use Rattle.derivation.proofs.Queue.{First, Sought, sought}
 
 module _ {W : Type 0} {m : Ops W} (laws : Laws m) (rules : List (Rule W)) (rest : ℕ → W) (s : State W) (x : Entry W)

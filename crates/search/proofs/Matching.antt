@@ -1,10 +1,9 @@
 -- The rules of a sheet as the theory reads them, and the entries of the queue.
-use Rattle.std.proofs.Common.{◌≡◌, ℕ, zero, suc, ◌+◌, ◌<◌, ◌≤◌, Bool, true, false, cond, not, ◌&&◌, ◌||◌, eqb, ltb, ◌⊎◌, List, [], ◌∷◌, map, length, get_or, take, set, sum_by, count_by, sym, refl, ap, ◌∙◌, subst, inl, inr, arith}
-use Rattle.std.specs.List.{AllByRecursion as All}
+use Rattle.std.proofs.Common.{◌≡◌, ℕ, zero, suc, ◌<◌, ◌≤◌, Bool, true, false, cond, not, ◌&&◌, eqb, List, [], ◌∷◌, map, length, get_or, take, set, sym, refl, ap, ◌∙◌, inl, inr, arith}
 use Rattle.std.proofs.lemmas.List.{get_or-set_other, get_or_past}
 use Rattle.std.proofs.ByRecursion.{All-from_get_or, All-get_or}
 use Rattle.std.proofs.lemmas.List.Sums.{get_or-le-sum_by}
-use Rattle.std.proofs.lemmas.Bool.{cases_eq, cases_Bool, both_ways, eq-eqb, eqb-true, lt-ltb, le-ltb, cases_lt, and_parts}
+use Rattle.std.proofs.lemmas.Bool.{cases_Bool, both_ways, eq-eqb, lt-ltb, le-ltb, cases_lt}
 use Rattle.measure.specs.Ops.{Ops}
 use Rattle.queue.specs.declared.entry.Entry.{Entry}
 use Rattle.sheet.specs.declared.rule.Rule as sheet_rule
@@ -18,7 +17,7 @@ use Rattle.derivation.specs.Joins.{joined}
 use Rattle.derivation.specs.Search.{Closed, State, is_closed, all_closed, weight_in, among, queued, entry}
 use Rattle.guide.specs.Weighted.{weigh, weighted}
 use Rattle.search.specs.Entries.{held, rule_weight, rule_entry}
-use Rattle.search.specs.Waiting.{waiting, Filled, entry_at, Ready}
+use Rattle.search.specs.Waiting.{waiting, Filled, entry_at}
 use Rattle.search.proofs.Filling.{bit}
 use Rattle.search.specs.Shown.{unclosed, open_places}
 use Rattle.search.proofs.Opening.{none_unclosed}

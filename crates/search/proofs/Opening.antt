@@ -1,15 +1,15 @@
 -- Open places: what closing a fact takes from them, and what the chain of the fact counts.
-use Rattle.std.proofs.Common.{◌≡◌, ℕ, zero, suc, ◌+◌, ◌*◌, ◌/◌, ◌<◌, ◌≤◌, Bool, true, false, cond, not, ◌&&◌, ◌||◌, eqb, ltb, ◌⊎◌, List, [], ◌∷◌, length, get_or, sym, refl, ap, ◌∙◌, subst, inl, inr, add-one, arith}
+use Rattle.std.proofs.Common.{◌≡◌, ℕ, zero, suc, ◌+◌, ◌*◌, ◌<◌, ◌≤◌, Bool, true, false, cond, not, ◌&&◌, ◌||◌, eqb, ltb, List, [], ◌∷◌, length, get_or, sym, refl, ap, ◌∙◌, inl, inr, arith}
 use Rattle.std.proofs.lemmas.List.{get_or_past}
-use Rattle.std.proofs.lemmas.Bool.{cases_eq, cases_Bool, both_ways, eqb-true, eqb-false, eq-eqb, ne_eqb, le-ltb, cases_lt}
+use Rattle.std.proofs.lemmas.Bool.{cases_eq, both_ways, eqb-true, eq-eqb, ne_eqb, cases_lt}
 use Rattle.sheet.specs.declared.rule.Rule.{Rule}
 use Rattle.sheet.specs.declared.slot.Slot.{Slot}
 use Rattle.sheet.specs.declared.slot.Slot.TheVariants.{Empty}
 use Rattle.sheet.specs.Rules.{body_of}
 use Rattle.sheet.specs.Slots.{rule_at, rule_in}
 use Rattle.derivation.specs.Search.{Closed, is_closed, all_closed}
-use Rattle.search.specs.Chains.{names, holds, uses}
-use Rattle.search.proofs.Chains.{at_place, rule_of_place, body_bound, names_struck}
+use Rattle.search.specs.Chains.{names, uses}
+use Rattle.search.proofs.Chains.{at_place, rule_of_place, body_bound}
 use Rattle.search.proofs.Filling.{bit}
 use Rattle.search.specs.Shown.{occurs, unclosed, open_places}
 

@@ -1,9 +1,8 @@
 -- The promise follows from the definition and the theory.
-use Rattle.std.proofs.Common.{◌≡◌, ℕ, ◌+◌, ◌<◌, ◌≤◌, Bool, true, false, cond, not, ◌&&◌, eqb, ltb, ◌⊎◌, List, [], ◌∷◌, ◌++◌, map, length, get_or, take, drop, is_ok, Some, None, Ok, Err, Option, Result, sym, refl, ap, ◌∙◌, subst, inl, inr, arith}
-use Rattle.std.specs.List.{range_with_len}
+use Rattle.std.proofs.Common.{◌≡◌, ℕ, ◌<◌, ◌≤◌, Bool, true, false, cond, ◌&&◌, ltb, List, [], ◌++◌, length, get_or, take, drop, is_ok, Some, None, Ok, Err, Option, Result, sym, refl, ap, ◌∙◌, subst, inl, inr, arith}
 use Rattle.std.proofs.lemmas.List.FromFn.{length-map-range_with_len, get_or-map-range_with_len}
 use Rattle.std.proofs.lemmas.List.{get_or_append_left, take_at}
-use Rattle.std.proofs.lemmas.Bool.{cases_Bool, cases_lt, both_ways, lt-ltb, le-ltb, cond-true, not-true}
+use Rattle.std.proofs.lemmas.Bool.{cases_lt, both_ways, lt-ltb, le-ltb, cond-true, not-true}
 use Rattle.measure.specs.Ops.{Ops, Laws}
 use Rattle.sheet.specs.declared.slot.Slot.{Slot}
 use Rattle.sheet.specs.declared.refusal.Refusal.{Refusal}
@@ -11,7 +10,7 @@ use Rattle.sheet.specs.Refusals.{Answer, accepted, refused, Told, after, answer 
 use Rattle.sheet.specs.Slots.{passes, rule_at}
 use Rattle.sheet.proofs.Within.{passes_at, within_parts}
 use Rattle.derivation.specs.Rules as theory
-use Rattle.derivation.specs.Trees.{Tree, node, Derives, weight, Derivable, Least, Lightest}
+use Rattle.derivation.specs.Trees.{Tree, node, Derives, Lightest}
 use Rattle.derivation.specs.Fit.{Verdict, fits, target_fails, rule_fails, Fit, check_fit}
 use Rattle.derivation.specs.Search.{State, is_closed, no_reason, answer, closed_count, taken_count, weight_of, reason_of}
 use Rattle.derivation.specs.Theorems.{OptimalAt, ExactAt, count_below}

@@ -1,18 +1,15 @@
 -- The first entries, one rule more.
-use Rattle.std.proofs.Common.{◌≡◌, ℕ, ◌+◌, ◌-◌, ◌<◌, ◌≤◌, Bool, true, false, cond, not, ◌&&◌, ◌||◌, eqb, ltb, ◌⊎◌, List, [], length, get_or, take, count_by, sym, refl, ap, ◌∙◌, subst, inl, inr, arith}
+use Rattle.std.proofs.Common.{◌≡◌, ℕ, ◌+◌, ◌<◌, ◌≤◌, Bool, true, false, ◌&&◌, ◌||◌, eqb, ltb, List, [], length, get_or, take, sym, refl, ap, ◌∙◌, inl, inr, arith}
 use Rattle.std.proofs.lemmas.List.Sums.{sum_by_more}
-use Rattle.std.proofs.lemmas.List.{take_all}
-use Rattle.std.proofs.lemmas.Bool.{cases_eq, cases_Bool, both_ways, eq-eqb, ne_eqb, lt-ltb, le-ltb, cases_lt}
+use Rattle.std.proofs.lemmas.Bool.{cases_eq, cases_Bool, eq-eqb, ne_eqb, lt-ltb, le-ltb, cases_lt}
 use Rattle.measure.specs.Ops.{Ops}
 use Rattle.queue.specs.declared.entry.Entry.{Entry}
 use Rattle.queue.specs.Entry.{entry_leb}
 use Rattle.queue.specs.Heap.{Added}
 use Rattle.sheet.specs.declared.slot.Slot.{Slot}
-use Rattle.sheet.specs.Slots.{rule_at}
-use Rattle.search.specs.Entries.{rule_entry}
-use Rattle.search.specs.Waiting.{unready, waiting, Filled, entry_at, Ready}
+use Rattle.search.specs.Waiting.{unready, waiting, Filled}
 use Rattle.search.proofs.Filling.{bit, filled_same, filled_put}
-use Rattle.search.proofs.Waiting.{Waits, waiting_parts, waiting_here, waiting_not}
+use Rattle.search.proofs.Waiting.{waiting_parts}
 
 -- the rules below i that wait
 abbrev pub seeded : List Slot → List ℕ → ℕ → ℕ → Bool

@@ -1,10 +1,9 @@
 -- The main loop, turn by turn.
-use Rattle.std.proofs.Common.{◌≡◌, ℕ, zero, suc, ◌+◌, ◌-◌, ◌*◌, ◌<◌, ◌≤◌, Bool, true, false, cond, not, ◌&&◌, ◌||◌, eqb, ltb, ◌⊎◌, List, [], ◌∷◌, ◌++◌, map, reverse, length, get_or, take, set, Some, None, count_by, Option, sym, refl, ap, ◌∙◌, subst, inl, inr, add-one, arith, length-set}
+use Rattle.std.proofs.Common.{◌≡◌, ℕ, suc, ◌+◌, ◌-◌, ◌*◌, ◌<◌, ◌≤◌, Bool, true, false, not, ◌&&◌, ◌||◌, eqb, ltb, List, [], ◌∷◌, ◌++◌, map, length, get_or, take, set, Some, None, count_by, Option, sym, refl, ap, ◌∙◌, subst, inl, inr, add-one, arith, length-set}
 use mathlib.Core.List.{reverse-cons}
-use Rattle.std.specs.List.{AllByRecursion as All}
-use Rattle.std.proofs.lemmas.List.{get_or-set_same, get_or-set_other, take_more_set, get_or_default}
+use Rattle.std.proofs.lemmas.List.{get_or-set_same, get_or-set_other, take_more_set}
 use Rattle.std.proofs.lemmas.List.Sums.{sum_by-set, get_or-le-sum_by}
-use Rattle.std.proofs.lemmas.Bool.{cases_eq, cases_Bool, both_ways, eq-eqb, eqb-true, ne_eqb, not_from_true, not_from_false, not-false}
+use Rattle.std.proofs.lemmas.Bool.{cases_eq, cases_Bool, eq-eqb, eqb-true, ne_eqb, not_from_true, not_from_false}
 use Rattle.measure.specs.Ops.{Ops, Laws}
 use Rattle.queue.specs.declared.entry.Entry.{Entry}
 use Rattle.queue.specs.Entry.{entry_leb}
@@ -12,15 +11,15 @@ use Rattle.queue.specs.Heap.{Removed}
 use Rattle.sheet.specs.declared.slot.Slot.{Slot}
 use Rattle.sheet.specs.Slots.{rule_at, passes}
 use Rattle.sheet.proofs.Within.{passes_at, within_parts}
-use Rattle.derivation.specs.Search.{Closed, State, start, is_closed, weight_in, reason_in, no_reason, among, queued, entry, take_entry, reached, step, run, final, closed_count, taken_count}
+use Rattle.derivation.specs.Search.{Closed, State, start, is_closed, no_reason, among, queued, entry, take_entry, reached, step, run, final}
 use Rattle.guide.specs.Weighted.{weighted}
 use Rattle.search.specs.Chains.{uses}
-use Rattle.search.specs.Waiting.{unready, waiting, Filled, entry_at, Ready}
+use Rattle.search.specs.Waiting.{unready, waiting, entry_at, Ready}
 use Rattle.search.proofs.Filling.{bit, Taken, filled_take}
-use Rattle.search.proofs.Waiting.{Waits, waiting_parts, waiting_not}
-use Rattle.search.specs.Shown.{open_places, Shows, Running, wanted, outcome}
+use Rattle.search.proofs.Waiting.{Waits, waiting_parts}
+use Rattle.search.specs.Shown.{Shows, Running, wanted, outcome}
 use Rattle.search.proofs.Least.{least_is, none_least, step_none, step_reached, step_some, run_ended, run_on}
-use Rattle.search.proofs.Opening.{mentions, uses_whole, open_less}
+use Rattle.search.proofs.Opening.{uses_whole, open_less}
 use Rattle.search.proofs.Matching.{head_is, length_weighted, queued_is, entry_is, entry_kept, filled_swap}
 
 -- What holds at the start of each turn.

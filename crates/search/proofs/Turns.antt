@@ -1,5 +1,5 @@
 -- The main loop's turns, as the code has them.
-use Rattle.std.proofs.Common.{◌≡◌, ℕ, ◌+◌, ◌-◌, ◌*◌, ◌<◌, ◌≤◌, Bool, true, false, cond, not, eqb, ◌⊎◌, List, length, get_or, set, Ok, Err, Option, Result, sym, refl, ap, ◌∙◌, subst, inl, inr, arith}
+use Rattle.std.proofs.Common.{◌≡◌, ℕ, ◌+◌, ◌-◌, ◌*◌, ◌<◌, ◌≤◌, true, false, List, length, get_or, set, Ok, Err, Option, Result, sym, ap, ◌∙◌, subst, arith}
 use Rattle.std.proofs.lemmas.List.{get_or_default}
 use Rattle.std.proofs.lemmas.Bool.{ne_eqb, not_from_false, cond-true, cond-false}
 use Rattle.measure.specs.Ops.{Ops, Laws}
@@ -15,7 +15,7 @@ use Rattle.search.specs.declared.columns.Counts.{Counts}
 use Rattle.search.specs.Shown.{Shows, wanted, outcome, run_answer}
 use Rattle.search.specs.Chains.{uses}
 use Rattle.search.specs.Waiting.{unready, Ready}
-use Rattle.search.proofs.Steps.{Loop, ended, head_under, dropped, order_room, Found, found_shows, chain_open, walked}
+use Rattle.search.proofs.Steps.{Loop, ended, head_under, dropped, order_room, found_shows, chain_open, walked}
 
 abbrev counts : ℕ → ℕ → Counts
 counts c t = record { closed = c; taken = t }

@@ -1,11 +1,11 @@
 -- What a search answers, and what it leaves in its columns.
-use Rattle.std.specs.Prelude.{ℕ, ◌+◌, ◌*◌, Bool, true, cond, ◌&&◌, List, [], ◌∷◌, ◌++◌, map, length, Some, None, Option, ◌==◌, nat_le, nat_lt}
+use Rattle.std.specs.Prelude.{ℕ, ◌+◌, ◌*◌, Bool, true, cond, ◌&&◌, List, [], ◌∷◌, map, length, Some, None, Option, ◌==◌, nat_le, nat_lt}
 use Rattle.std.specs.List.{range_with_len}
 use Rattle.measure.specs.Ops.{Ops}
 use Rattle.sheet.specs.declared.slot.Slot.{Slot}
 use Rattle.sheet.specs.Refusals.{Answer, accepted, refused, closed, taken}
-use Rattle.derivation.specs.Fit.{Verdict, fits, target_fails, rule_fails, check_fit}
-use Rattle.derivation.specs.Search.{State, answer, closed_count, taken_count, weight_of, reason_of}
+use Rattle.derivation.specs.Fit.{check_fit}
+use Rattle.derivation.specs.Search.{State, answer, closed_count, taken_count}
 use Rattle.derivation.specs.Line.{line}
 use Rattle.guide.specs.Fit.{fit_answer}
 use Rattle.guide.specs.Weighted.{weighted}

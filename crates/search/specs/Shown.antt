@@ -1,5 +1,5 @@
 -- How the columns show a state of the search.
-use Rattle.std.specs.Prelude.{◌≡◌, ℕ, ◌+◌, ◌<◌, Bool, true, false, cond, not, List, [], ◌∷◌, map, reverse, length, take, Some, None, Ok, Err, count_by, Option, Result, ◌==◌, nat_eq, slice_index, slice_index_or}
+use Rattle.std.specs.Prelude.{◌≡◌, ℕ, ◌+◌, ◌<◌, Bool, false, cond, not, List, [], ◌∷◌, map, reverse, length, take, Some, None, Ok, Err, count_by, Option, Result, ◌==◌, nat_eq, slice_index, slice_index_or}
 use Rattle.std.specs.List.{AllByRecursion as All}
 use Rattle.measure.specs.Ops.{Ops}
 use Rattle.sheet.specs.declared.rule.Rule.{Rule}

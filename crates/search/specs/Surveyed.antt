@@ -1,5 +1,5 @@
 -- What a survey answers and leaves in its columns.
-use Rattle.std.specs.Prelude.{◌≡◌, ℕ, ◌<◌, Bool, cond, ◌&&◌, List, [], ◌++◌, length, drop, None, nat_le, slice_index_or}
+use Rattle.std.specs.Prelude.{◌≡◌, ℕ, ◌<◌, Bool, cond, ◌&&◌, List, [], ◌++◌, drop, None, nat_le, slice_index_or}
 use Rattle.measure.specs.Ops.{Ops}
 use Rattle.sheet.specs.declared.slot.Slot.{Slot}
 use Rattle.sheet.specs.Refusals.{Answer, accepted, refused}

@@ -1,15 +1,15 @@
 -- Going through the slots for a passing.
-use Rattle.std.proofs.Common.{◌≡◌, ℕ, suc, ◌+◌, ◌-◌, ◌<◌, ◌≤◌, Bool, true, false, cond, ◌&&◌, ◌||◌, eqb, ltb, List, [], ◌∷◌, length, get_or, take, drop, sym, refl, ap, ◌∙◌, inl, inr, ⊎_elim, add-one, arith, length-take}
+use Rattle.std.proofs.Common.{◌≡◌, ℕ, suc, ◌+◌, ◌-◌, ◌<◌, ◌≤◌, true, false, cond, ◌&&◌, ◌||◌, eqb, ltb, List, [], ◌∷◌, length, get_or, take, drop, sym, refl, ap, ◌∙◌, ⊎_elim, add-one, arith, length-take}
 use Rattle.std.proofs.lemmas.List.{at_drop_more, take-take}
 use Rattle.std.proofs.lemmas.Bool.{cond-true, cond-false, cases_Bool, or_from, ne_eqb, le-ltb}
 use Rattle.sheet.specs.declared.rule.Rule.{Rule}
 use Rattle.sheet.specs.declared.slot.Slot.{Slot}
 use Rattle.sheet.specs.declared.slot.Slot.TheVariants.{Empty, Full}
-use Rattle.sheet.specs.Refusals.{Answer, accepted, refused, verdict, a_rule}
+use Rattle.sheet.specs.Refusals.{accepted, refused, verdict, a_rule}
 use Rattle.sheet.specs.Rules.{within}
 use Rattle.sheet.specs.Slots.{used, fulls, count, passes}
 use Rattle.sheet.specs.Passing.{scan, pass_answer}
-use Rattle.sheet.proofs.Entered.{fulls_bound, count_bound}
+use Rattle.sheet.proofs.Entered.{fulls_bound}
 
 module _ (n : ℕ) (xs : List Slot) (i : ℕ) (h : i < length xs) where
   pub scan_empty : get_or xs i Empty ≡ Empty → scan n i (drop i xs) ≡ accepted i

@@ -1,5 +1,5 @@
 -- Edits of a sheet: what each call answers, and what it leaves in the slots.
-use Rattle.std.specs.Prelude.{ℕ, Bool, cond, List, [], length, replicate, nat_lt, slice_set}
+use Rattle.std.specs.Prelude.{ℕ, cond, List, [], length, replicate, nat_lt, slice_set}
 use Rattle.measure.specs.Ops.{cost_limit}
 use Rattle.sheet.specs.declared.rule.Rule.{Rule}
 use Rattle.sheet.specs.declared.slot.Slot.{Slot}

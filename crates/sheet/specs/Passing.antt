@@ -1,5 +1,5 @@
 -- Passing a sheet: what is answered, and what the view then shows.
-use Rattle.std.specs.Prelude.{ℕ, suc, Bool, true, false, cond, ◌||◌, List, [], ◌∷◌, take, ◌==◌, nat_lt}
+use Rattle.std.specs.Prelude.{ℕ, suc, cond, ◌||◌, List, [], ◌∷◌, take, ◌==◌, nat_lt}
 use Rattle.sheet.specs.declared.slot.Slot.{Slot}
 use Rattle.sheet.specs.declared.slot.Slot.TheVariants.{Empty, Full}
 use Rattle.sheet.specs.declared.passed.Passed.{Passed}

@@ -1,4 +1,4 @@
-use Rattle.std.proofs.Common.{◌≡◌, ℕ, List, map, length, ap, ◌∙◌, arith}
+use Rattle.std.proofs.Common.{◌≡◌, ℕ, List, length, ap, ◌∙◌, arith}
 use lib.ListN.{length-map}
 use Rattle.sheet.specs.declared.slot.Slot.{Slot}
 use Rattle.derivation.specs.Contexts.{context}

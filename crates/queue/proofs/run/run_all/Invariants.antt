@@ -1,4 +1,3 @@
-use Rattle.std.proofs.Common.{◌≡◌, ◌≤◌, length, take, drop}
 use Rattle.queue.proofs.Runs.{Going}
 use Rattle.queue.proofs.run.run_all.Given as goal
 

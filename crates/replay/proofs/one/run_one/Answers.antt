@@ -1,4 +1,3 @@
-use Rattle.std.proofs.Common.{◌≡◌, sym, refl, ap, ◌∙◌}
 use Rattle.replay.proofs.Calls.{entering, repricing, striking, searching, board_is}
 use Rattle.replay.proofs.Seeking.{untouched}
 use Rattle.replay.specs.Run.{Board}

@@ -1,4 +1,4 @@
-use Rattle.std.proofs.Common.{◌≡◌, length, sym, ap, ◌∙◌}
+use Rattle.std.proofs.Common.{length, sym, ap, ◌∙◌}
 use Rattle.sheet.specs.Refusals.{after}
 use Rattle.replay.specs.Run.{Board, Lengths, searched}
 use Rattle.replay.proofs.Starting.{start_small}

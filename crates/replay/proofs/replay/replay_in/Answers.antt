@@ -1,9 +1,9 @@
-use Rattle.std.proofs.Common.{◌≡◌, ℕ, true, [], length, Err, sym, refl, ap, ◌∙◌, subst}
+use Rattle.std.proofs.Common.{◌≡◌, ℕ, true, [], length, Err, sym, ap, ◌∙◌, subst}
 use Rattle.std.proofs.lemmas.Result.{err_from_is_err_and}
 use Rattle.search.specs.Answered.{work_length, checked}
 use Rattle.search.specs.Left.{Scratch}
-use Rattle.sheet.specs.Refusals.{accepted, answer, after}
-use Rattle.replay.specs.Run.{Board, Lengths, board_after, replies_to, opened, is_accepted, found_on, searched, start_answer, Written}
+use Rattle.sheet.specs.Refusals.{answer, after}
+use Rattle.replay.specs.Run.{Board, Lengths, board_after, replies_to, opened, is_accepted, found_on, Written}
 use Rattle.replay.proofs.Calls.{board_is}
 use Rattle.replay.proofs.Running.{scratch_again, lengths_are}
 use Rattle.replay.proofs.Starting.{left_accepted, refused_at_start, ended, ended_board}

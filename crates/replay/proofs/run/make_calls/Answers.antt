@@ -1,10 +1,9 @@
-use Rattle.std.proofs.Common.{◌≡◌, ℕ, true, length, sym, ◌∙◌, subst, arith}
+use Rattle.std.proofs.Common.{ℕ, true, length, sym, subst, arith}
 use Rattle.search.specs.Answered.{work_length}
 use Rattle.search.specs.Left.{Scratch}
 use Rattle.replay.specs.Run.{Board, Lengths}
 use Rattle.replay.proofs.Running.{Going, begun, goes_on, board_done, written_done, scratch_again, replied_at, next_at, lengths_are}
 use Rattle.replay.proofs.Seeking.{untouched}
-use Rattle.replay.proofs.run.make_calls.Given as given
 use Rattle.replay.proofs.run.make_calls.Goals as goal
 
 pub write-requires : goal.write-requires

@@ -1,4 +1,4 @@
-use Rattle.std.proofs.Common.{◌≡◌, true, length}
+use Rattle.std.proofs.Common.{true, length}
 use Rattle.search.specs.Answered.{work_length}
 use Rattle.search.specs.Left.{Scratch}
 use Rattle.replay.proofs.Running.{Going}

@@ -1,11 +1,10 @@
-use Rattle.std.proofs.Common.{◌≡◌, ℕ, true, List, length, replicate, Err, sym, refl, ap, ◌∙◌, subst}
+use Rattle.std.proofs.Common.{◌≡◌, ℕ, true, length, replicate, Err, refl, ap, ◌∙◌, subst}
 use Rattle.std.proofs.lemmas.Result.{err_from_is_err_and}
 use Rattle.search.specs.Answered.{work_length}
 use Rattle.search.specs.Left.{Scratch}
-use Rattle.sheet.specs.declared.slot.Slot.{Slot}
 use Rattle.sheet.specs.declared.slot.Slot.TheVariants.{Empty}
 use Rattle.sheet.specs.Refusals.{answer}
-use Rattle.replay.specs.Run.{Board, Lengths, board_after, replies_to, opened, with_slots, start_answer, Written}
+use Rattle.replay.specs.Run.{Board, Lengths, board_after, replies_to, with_slots, Written}
 use Rattle.replay.proofs.Starting.{start_room, start_opens, start_keeps, left_accepted, left_refused}
 use Rattle.replay.proofs.run.run_in.Goals as goal
 

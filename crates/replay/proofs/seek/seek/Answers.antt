@@ -1,10 +1,10 @@
-use Rattle.std.proofs.Common.{◌≡◌, ℕ, false, List, Err, sym, refl, ap, ◌∙◌, arith}
+use Rattle.std.proofs.Common.{◌≡◌, ℕ, false, List, Err, sym, ap, ◌∙◌}
 use Rattle.sheet.specs.declared.slot.Slot.{Slot}
 use Rattle.search.specs.Left.{weights_left, reasons_left, line_left}
 use Rattle.replay.specs.Run.{shown}
 use Rattle.std.proofs.lemmas.Result.{err_from_is_err_and}
 use Rattle.std.proofs.lemmas.Bool.{cond-false}
-use Rattle.sheet.specs.Refusals.{refused, number, told, answer, after}
+use Rattle.sheet.specs.Refusals.{refused, number, told, answer}
 use Rattle.search.specs.Answered.{ran}
 use Rattle.replay.proofs.Seeking.{pass_number, view_is, sought_here, sought_refused, used_from, untouched, view_short, view_work}
 use Rattle.replay.proofs.seek.seek.Goals as goal

@@ -1,7 +1,6 @@
 use Rattle.std.proofs.Common.{◌≡◌, ℕ, ◌+◌, length, take, set, replicate, sym, refl, ap, ◌∙◌, arith}
 use Rattle.std.proofs.lemmas.List.{take_all}
 use Rattle.search.proofs.Starting.{replicate_more}
-use Rattle.search.proofs.explore.clear.Given as given
 use Rattle.search.proofs.explore.clear.Goals as goal
 
 pub loop-i-init : goal.loop-i-init

@@ -1,7 +1,6 @@
-use Rattle.std.proofs.Common.{◌≡◌, ℕ, ◌+◌, true, length, replicate, sym, refl, ap, ◌∙◌, subst, arith, rules}
+use Rattle.std.proofs.Common.{◌≡◌, ℕ, true, length, replicate, sym, ◌∙◌, subst, arith, rules}
 use Rattle.sheet.specs.Slots.{passes}
 use Rattle.search.proofs.Starting.{running_start, shows_start}
-use Rattle.search.proofs.explore.explore.Given as given
 use Rattle.search.proofs.explore.explore.Goals as goal
 
 pub run-requires : goal.run-requires

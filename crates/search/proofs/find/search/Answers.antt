@@ -1,7 +1,5 @@
-use Rattle.std.proofs.Common.{◌≡◌, sym, refl, ap, ◌∙◌}
 use Rattle.std.proofs.lemmas.Bool.{leb-true}
 use Rattle.search.proofs.Promised.{promised_over, promise_of}
-use Rattle.search.proofs.find.search.Given as given
 use Rattle.search.proofs.find.search.Goals as goal
 
 pub returns : goal.returns

@@ -1,4 +1,4 @@
-use Rattle.std.proofs.Common.{◌≡◌, ℕ, ◌-◌, ◌<◌, ◌≤◌, Bool, true, false, List, ◌++◌, length, take, drop, Err, sym, refl, ap, ◌∙◌, subst, arith}
+use Rattle.std.proofs.Common.{◌≡◌, ℕ, ◌-◌, Bool, false, List, ◌++◌, length, take, drop, Err, sym, refl, ap, ◌∙◌, arith}
 use Rattle.std.proofs.lemmas.Result.{err_from_is_err_and}
 use Rattle.std.proofs.lemmas.Bool.{cond-false}
 use Rattle.sheet.specs.declared.slot.Slot.{Slot}
@@ -6,7 +6,6 @@ use Rattle.sheet.specs.Refusals.{refused, number, told, answer, after}
 use Rattle.derivation.specs.Search.{answer as found_weight, weight_of, reason_of}
 use Rattle.search.specs.Answered.{column, long_enough, told_found, end, end_line, ran}
 use Rattle.search.proofs.Refusing.{target_answer, short_answer, unfit_answer, run_told, unfit_number, still, told_ran, column_left, scratch_left, long_parts, part_length}
-use Rattle.search.proofs.find.search_in.Given as given
 use Rattle.search.proofs.find.search_in.Goals as goal
 
 -- the test of lengths, at what the view shows

@@ -1,4 +1,4 @@
-use Rattle.std.proofs.Common.{◌≡◌, ℕ, ◌-◌, [], ◌∷◌, ◌++◌, reverse, length, take, drop, sym, refl, ap, ◌∙◌, arith, length-take}
+use Rattle.std.proofs.Common.{◌≡◌, ℕ, ◌-◌, [], ◌∷◌, ◌++◌, reverse, length, take, drop, ap, ◌∙◌, arith, length-take}
 use Rattle.search.specs.Unwound.{unwound_rules}
 use Rattle.search.proofs.line.draw.Goals as goal
 

@@ -1,10 +1,10 @@
-use Rattle.std.proofs.Common.{◌≡◌, ℕ, ◌+◌, ◌-◌, ◌<◌, ◌≤◌, true, false, cond, eqb, ◌⊎◌, length, get_or, set, replicate, sym, refl, ap, ◌∙◌, subst, inl, inr, arith, length-set, rules}
+use Rattle.std.proofs.Common.{◌≡◌, ℕ, ◌-◌, ◌<◌, true, cond, eqb, length, get_or, set, replicate, sym, refl, ap, ◌∙◌, subst, inl, inr, arith, length-set, rules}
 use Rattle.std.proofs.lemmas.List.{get_or-replicate, get_or-set_same, get_or-set_other, length-replicate}
 use Rattle.std.proofs.ByRecursion.{All-get_or}
 use Rattle.std.proofs.lemmas.Bool.{cases_eq, eq-eqb, ne_eqb}
 use Rattle.sheet.specs.Slots.{rule_at, passes}
 use Rattle.sheet.proofs.Within.{passes_at, within_parts}
-use Rattle.search.proofs.Unwinding.{Drawing, drawing_start, drawing_next, drawing_end}
+use Rattle.search.proofs.Unwinding.{drawing_start, drawing_next, drawing_end}
 use Rattle.search.proofs.line.unwind.Goals as goal
 
 -- a column of zeros with a one at the target

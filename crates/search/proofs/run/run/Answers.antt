@@ -1,9 +1,8 @@
-use Rattle.std.proofs.Common.{◌≡◌, ℕ, ◌+◌, ◌-◌, ◌<◌, ◌≤◌, true, false, ◌⊎◌, length, get_or, sym, refl, ap, ◌∙◌, subst, inl, inr, arith, length-set, rules}
+use Rattle.std.proofs.Common.{◌≡◌, ℕ, true, length, sym, ap, ◌∙◌, subst, inl, inr, arith, length-set}
 use Rattle.sheet.specs.declared.rule.Rule.{Rule}
 use Rattle.sheet.specs.Slots.{rule_at, passes}
 use Rattle.search.proofs.Steps.{loop_start, rule_under}
 use Rattle.search.proofs.Turns.{shown_out, turn_head, turn_dropped, turn_room, turn_found, turn_open, turn_walked}
-use Rattle.search.proofs.run.run.Given as given
 use Rattle.search.proofs.run.run.Goals as goal
 
 pub loop-entry-init : goal.loop-entry-init

@@ -1,10 +1,9 @@
-use Rattle.std.proofs.Common.{◌≡◌, ℕ, ◌+◌, ◌<◌, ◌≤◌, true, length, get_or, take, sym, refl, ap, ◌∙◌, arith}
+use Rattle.std.proofs.Common.{◌≡◌, ◌<◌, length, take, sym, refl, ap, ◌∙◌, arith}
 use Rattle.std.proofs.lemmas.List.{take_all}
 use Rattle.std.proofs.lemmas.Bool.{both_ways, le-ltb}
 use Rattle.search.specs.Waiting.{unready}
 use Rattle.search.proofs.Filling.{filled_same}
 use Rattle.search.proofs.Seeding.{seeded, seeded_more, seeded_not, seeded_all, unready_more, either_way, filled_none}
-use Rattle.search.proofs.seed.seed.Given as given
 use Rattle.search.proofs.seed.seed.Goals as goal
 
 pub loop-number-init : goal.loop-number-init

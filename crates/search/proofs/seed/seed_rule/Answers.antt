@@ -1,4 +1,4 @@
-use Rattle.std.proofs.Common.{◌≡◌, ℕ, ◌+◌, ◌<◌, ◌≤◌, Bool, true, false, cond, [], length, get_or, sym, refl, ap, ◌∙◌, arith}
+use Rattle.std.proofs.Common.{◌≡◌, ℕ, ◌+◌, Bool, true, false, cond, [], length, refl, ap, ◌∙◌, arith}
 use Rattle.std.proofs.lemmas.Bool.{both_ways}
 use Rattle.sheet.proofs.Within.{passes_at, within_parts}
 use Rattle.sheet.specs.Slots.{rule_at}
@@ -6,9 +6,8 @@ use Rattle.queue.specs.declared.entry.Entry.{Entry}
 use Rattle.search.specs.Entries.{rule_entry}
 use Rattle.search.specs.Waiting.{waiting}
 use Rattle.search.proofs.Filling.{bit}
-use Rattle.search.proofs.Waiting.{Waits, waiting_here, waiting_not}
+use Rattle.search.proofs.Waiting.{waiting_here, waiting_not}
 use Rattle.search.proofs.Seeding.{filled_kept, filled_new}
-use Rattle.search.proofs.seed.seed_rule.Given as given
 use Rattle.search.proofs.seed.seed_rule.Goals as goal
 
 kept_count : (n : ℕ) (b : Bool) → b ≡ false → n ≡ n + cond b 1 0

@@ -1,5 +1,5 @@
-use Rattle.std.proofs.Common.{◌≡◌, ℕ, ◌+◌, ◌*◌, length, replicate, sym, refl, ap, ◌∙◌, subst, arith, rules}
-use Rattle.std.proofs.lemmas.List.{get_or-replicate, length-replicate}
+use Rattle.std.proofs.Common.{◌≡◌, ℕ, ◌+◌, ◌*◌, length, replicate, subst, arith, rules}
+use Rattle.std.proofs.lemmas.List.{get_or-replicate}
 use Rattle.search.specs.Chains.{Chained}
 use Rattle.search.proofs.setup.chain.Goals as goal
 

@@ -1,4 +1,4 @@
-use Rattle.std.proofs.Common.{◌≡◌, ◌+◌, ◌-◌, ◌<◌, length, get_or, sym, refl, ap, ◌∙◌, add-zero, arith}
+use Rattle.std.proofs.Common.{◌-◌, ◌<◌, length, sym, refl, ap, add-zero, arith}
 use Rattle.sheet.specs.Slots.{rule_at}
 use Rattle.search.proofs.Chains.{body_bound, chained_skips, names_struck, names_beyond, place_within, link_step}
 use Rattle.search.proofs.setup.chain_rule.Goals as goal

@@ -1,9 +1,7 @@
-use Rattle.std.proofs.Common.{◌≡◌, ℕ, ◌-◌, ◌<◌, true, [], ◌∷◌, ◌++◌, reverse, length, take, drop, sym, refl, ap, ◌∙◌, subst, arith, length-take}
-use Rattle.std.specs.List.{AllByRecursion as All}
+use Rattle.std.proofs.Common.{◌≡◌, ℕ, ◌-◌, true, [], ◌∷◌, ◌++◌, reverse, length, take, drop, sym, ap, ◌∙◌, subst, arith, length-take}
 use Rattle.std.proofs.lemmas.List.{get_or_read, length-reverse}
-use Rattle.sheet.specs.Slots.{passes, rule_at}
+use Rattle.sheet.specs.Slots.{passes}
 use Rattle.search.specs.Unwound.{unwound_rules, drawn_line}
-use Rattle.search.proofs.solve.finish.Given as given
 use Rattle.search.proofs.solve.finish.Goals as goal
 
 pub draw-len-requires : goal.draw-len-requires

@@ -1,14 +1,11 @@
-use Rattle.std.proofs.Common.{◌≡◌, ℕ, ◌<◌, ◌≤◌, true, false, List, ◌++◌, length, take, drop, Some, sym, refl, ap, ◌∙◌, subst, arith, rules}
+use Rattle.std.proofs.Common.{◌≡◌, ℕ, ◌<◌, true, false, ◌++◌, length, take, drop, sym, ap, ◌∙◌, subst, arith}
 use Rattle.std.specs.List.{AllByRecursion as All}
 use Rattle.std.proofs.lemmas.Result.{err_from_is_err_and}
 use Rattle.sheet.specs.declared.refusal.Refusal.{Refusal}
 use Rattle.sheet.specs.Refusals.{refused, number, told, answer, after}
 use Rattle.sheet.specs.Slots.{passes, rule_at}
-use Rattle.derivation.specs.Search.{closed_count, taken_count}
-use Rattle.search.specs.Unwound.{drawn_line}
-use Rattle.search.specs.Answered.{told_found, end, end_line}
-use Rattle.search.proofs.Answering.{line_is, rules_stand, order_long, weights_are, reasons_are, told_out, told_in, Reached, found_told, line_drawn}
-use Rattle.search.proofs.solve.solve.Given as given
+use Rattle.search.specs.Answered.{end, end_line}
+use Rattle.search.proofs.Answering.{rules_stand, order_long, weights_are, reasons_are, told_out, told_in, found_told, line_drawn}
 use Rattle.search.proofs.solve.solve.Goals as goal
 
 pub returns-in_err-counts : goal.returns-in_err-counts

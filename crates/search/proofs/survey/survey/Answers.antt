@@ -1,7 +1,6 @@
-use Rattle.std.proofs.Common.{◌≡◌, sym, refl, ap, ◌∙◌}
+use Rattle.std.proofs.Common.{◌∙◌}
 use Rattle.std.proofs.lemmas.Bool.{cond-true}
 use Rattle.search.proofs.Promised.{floors, survey_accepted}
-use Rattle.search.proofs.survey.survey.Given as given
 use Rattle.search.proofs.survey.survey.Goals as goal
 
 pub returns : goal.returns

@@ -1,4 +1,4 @@
-use Rattle.std.proofs.Common.{◌≡◌, ℕ, ◌-◌, ◌<◌, ◌≤◌, Bool, true, false, cond, ◌&&◌, leb, List, ◌++◌, length, take, drop, sym, refl, ap, ◌∙◌, subst, arith}
+use Rattle.std.proofs.Common.{◌≡◌, ℕ, ◌-◌, ◌≤◌, Bool, true, ◌&&◌, leb, List, length, take, sym, ap, ◌∙◌, arith}
 use Rattle.std.proofs.lemmas.Bool.{cond-true, cond-false, and_parts, leb-true}
 use Rattle.sheet.specs.declared.slot.Slot.{Slot}
 use Rattle.sheet.specs.Refusals.{accepted}
@@ -7,7 +7,6 @@ use Rattle.search.specs.declared.columns.Counts.{Counts}
 use Rattle.search.specs.Answered.{column, work_length}
 use Rattle.search.specs.Surveyed.{survey_long, explored}
 use Rattle.search.proofs.Refusing.{still, column_left, scratch_left, part_length}
-use Rattle.search.proofs.survey.survey_in.Given as given
 use Rattle.search.proofs.survey.survey_in.Goals as goal
 
 -- the test of lengths, at what the view shows

@@ -1,9 +1,8 @@
-use Rattle.std.proofs.Common.{◌≡◌, ℕ, Ok, Err, Result, sym, refl, ap, ◌∙◌, arith}
+use Rattle.std.proofs.Common.{◌≡◌, ℕ, Ok, Err, Result, ◌∙◌, arith}
 use Rattle.sheet.specs.declared.refusal.Refusal.{Refusal}
 use Rattle.sheet.specs.declared.refusal.Refusal.TheVariants.{OutOfReach}
 use Rattle.search.specs.declared.columns.Counts.{Counts}
 use Rattle.search.proofs.Answering.{weights_are, reasons_are}
-use Rattle.search.proofs.survey.survey_slots.Given as given
 use Rattle.search.proofs.survey.survey_slots.Goals as goal
 
 same_refusal : (e : Refusal) (a b : ℕ) → ◌≡◌ {A = Result Counts Refusal} (Err e) (Err (OutOfReach a b)) → e ≡ OutOfReach a b

@@ -1,4 +1,4 @@
-use Rattle.std.proofs.Common.{◌≡◌, ℕ, ◌+◌, ◌-◌, ◌<◌, ◌≤◌, true, false, ltb, List, length, get_or, set, sym, refl, ap, ◌∙◌, arith}
+use Rattle.std.proofs.Common.{◌≡◌, ℕ, ◌+◌, ◌-◌, ◌<◌, ltb, List, length, get_or, set, refl, ap, ◌∙◌, arith}
 use Rattle.std.proofs.lemmas.Bool.{lt-ltb, le-ltb}
 use Rattle.sheet.proofs.Within.{passes_at, within_parts}
 use Rattle.sheet.specs.Slots.{rule_at}
@@ -6,7 +6,6 @@ use Rattle.search.specs.Waiting.{unready}
 use Rattle.search.specs.Entries.{rule_entry}
 use Rattle.search.proofs.Filling.{bit}
 use Rattle.search.proofs.Waiting.{unready_set, unready_some, ready_still, ready_put}
-use Rattle.search.proofs.visit.visit.Given as given
 use Rattle.search.proofs.visit.visit.Goals as goal
 
 -- the count of open places goes down by one

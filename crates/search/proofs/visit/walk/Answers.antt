@@ -1,7 +1,6 @@
-use Rattle.std.proofs.Common.{◌≡◌, ℕ, ◌+◌, ◌-◌, ◌*◌, ◌/◌, ◌<◌, ◌≤◌, length, get_or, sym, refl, ap, ◌∙◌, arith}
+use Rattle.std.proofs.Common.{◌≡◌, ℕ, ◌+◌, ◌-◌, ◌*◌, ◌/◌, ◌<◌, length, get_or, sym, refl, ap, ◌∙◌, arith}
 use Rattle.search.specs.Chains.{last_below, uses}
 use Rattle.search.proofs.Walking.{last_bound, last_fixed, uses_last, holds_stands, link_holds, link_uses, left_next}
-use Rattle.search.proofs.visit.walk.Given as given
 use Rattle.search.proofs.visit.walk.Goals as goal
 
 pub loop-link-init : goal.loop-link-init

@@ -1,4 +1,3 @@
-use Rattle.std.proofs.Common.{◌≡◌, sym, refl, ap, ◌∙◌}
 use Rattle.search.specs.Entries.{rule_entry}
 use Rattle.search.proofs.weigh.entry_of.Goals as goal
 

@@ -1,4 +1,4 @@
-use Rattle.std.proofs.Common.{◌≡◌, ◌<◌, List, map, length, get_or, take, sym, refl, ap, ◌∙◌, arith}
+use Rattle.std.proofs.Common.{◌≡◌, List, map, sym, ap, ◌∙◌, arith}
 use Rattle.std.proofs.lemmas.List.{take_all, get_or_read}
 use Rattle.measure.specs.Ops.{Ops, Laws}
 use Rattle.sheet.specs.declared.rule.Rule.{Rule}
@@ -7,7 +7,6 @@ use Rattle.sheet.proofs.Within.{below_at}
 use Rattle.derivation.specs.Joins.{joined}
 use Rattle.guide.proofs.Joining.{effort_alone, joined_more}
 use Rattle.search.specs.Entries.{held, rule_weight}
-use Rattle.search.proofs.weigh.weight_of.Given as given
 use Rattle.search.proofs.weigh.weight_of.Goals as goal
 
 whole_body : {W : Type 0} {m : Ops W} → Laws m → (r : Rule) (ws : List W)

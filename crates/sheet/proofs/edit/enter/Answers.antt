@@ -1,10 +1,9 @@
-use Rattle.std.proofs.Common.{◌≡◌, ◌<◌, ◌≤◌, set, sym, refl, ap, ◌∙◌, arith}
+use Rattle.std.proofs.Common.{set, sym, ap, arith}
 use Rattle.sheet.specs.declared.slot.Slot.TheVariants.{Full}
 use Rattle.sheet.specs.Refusals.{after}
 use Rattle.sheet.specs.Rules.{made}
-use Rattle.sheet.specs.Slots.{free}
 use Rattle.sheet.proofs.Edits.{body_fits, cost_fits, enter_full, enter_fits}
-use Rattle.sheet.proofs.Entered.{count_bound, none_free, some_free}
+use Rattle.sheet.proofs.Entered.{none_free, some_free}
 use Rattle.sheet.proofs.edit.enter.Goals as goal
 
 pub returns-then-number-min : goal.returns-then-number-min

@@ -1,6 +1,6 @@
-use Rattle.std.proofs.Common.{◌≡◌, ℕ, ◌<◌, ◌≤◌, sym, ap, ◌∙◌, arith}
+use Rattle.std.proofs.Common.{◌<◌, sym, arith}
 use Rattle.sheet.specs.Slots.{count}
-use Rattle.sheet.proofs.Edits.{standing_unknown, standing_struck, standing_here}
+use Rattle.sheet.proofs.Edits.{standing_unknown}
 use Rattle.sheet.proofs.Entered.{count_bound, entered_at}
 use Rattle.sheet.proofs.edit.standing.Goals as goal
 

@@ -1,9 +1,9 @@
-use Rattle.std.proofs.Common.{◌≡◌, ◌-◌, ◌≤◌, true, leb, length, take, sym, refl, ap, ◌∙◌, arith, length-take, rules}
+use Rattle.std.proofs.Common.{◌-◌, length, take, sym, ap, ◌∙◌, arith, length-take, rules}
 use Rattle.std.proofs.lemmas.Bool.{le-leb}
 use Rattle.sheet.specs.Refusals.{after}
 use Rattle.sheet.specs.Slots.{count}
 use Rattle.sheet.specs.Passing.{seen}
-use Rattle.sheet.proofs.Passing.{Counted, counted, pass_fits}
+use Rattle.sheet.proofs.Passing.{counted, pass_fits}
 use Rattle.sheet.proofs.passed.pass.pass.Goals as goal
 
 pub scan-requires : goal.scan-requires

@@ -1,4 +1,3 @@
-use Rattle.std.proofs.Common.{◌≡◌, sym, refl, ap, ◌∙◌, arith}
 use Rattle.sheet.proofs.Edits.{places}
 use Rattle.sheet.proofs.rule.Rule.new.Goals as goal
 
