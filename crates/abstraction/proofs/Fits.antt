@@ -1,7 +1,7 @@
 -- The map guide over columns that were made fits.
 use Rattle.std.proofs.Common.{◌≡◌, ℕ, ◌<◌, true, false, not, ◌&&◌, ltb, List, [], ◌∷◌, map, length, get_or, sym, refl, ap, ◌∙◌, subst, ap₂, inl, inr, arith}
 use lib.ListN.{length-map}
-use Rattle.std.specs.List.{AllByRecursion as All}
+use Rattle.std.specs.List.{AllByRecursion}
 use Rattle.std.proofs.ByRecursion.{All-from_get_or}
 use Rattle.std.proofs.lemmas.List.{get_or-map, get_or_default}
 use Rattle.std.proofs.lemmas.Bool.{both_ways, cases_Bool, cond-true, cond-false, and_from, lt-ltb, not-true, not_from_false}
@@ -29,7 +29,7 @@ module _ {W : Type 0} (m : Ops W) (rules : List (Rule W)) (n : ℕ) (floor floor
   beside_same : (r i : ℕ) → Standing m rules r → beside m floor (rule_at m rules r) i ≡ beside m floor' (rule_at m rules r) i
   beside_same r i stands =
       let a = rule_at m rules r in
-      let named : All (λ x. x < n) a.body = All-from_get_or (λ x. x < n) a.body 0 (λ j h. bodies r j stands h) in
+      let named : AllByRecursion (λ x. x < n) a.body = All-from_get_or (λ x. x < n) a.body 0 (λ j h. bodies r j stands h) in
       ap (λ ws. m.join a.effort (joined m ws)) (map_agree floor floor' n same (without a.body i) (all_without _ a.body i named))
 
   chain_same : (moves : List Move) (f target : ℕ) → Chain m rules moves f target → chain_weight m floor rules moves ≡ chain_weight m floor' rules moves

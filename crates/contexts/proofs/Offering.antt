@@ -1,6 +1,6 @@
 -- Offers put into the queue: what is offered stays, and each entry has a chain of its weight.
 use Rattle.std.proofs.Common.{◌≡◌, ℕ, zero, suc, ◌+◌, ◌-◌, ◌<◌, ◌≤◌, ◌⊎◌, List, ◌∷◌, length, get_or, take, refl, ap, ◌∙◌, subst, inl, inr, arith}
-use Rattle.std.specs.List.{ContainsAt as Has, HoldsAt, AllByRecursion as All}
+use Rattle.std.specs.List.{ContainsAt as Has, HoldsAt, AllByRecursion}
 use Rattle.std.proofs.ByRecursion.{all_shuffled, has_shuffled}
 use Rattle.measure.specs.Ops.{Ops, Laws}
 use Rattle.queue.specs.declared.entry.Entry.{Entry}
@@ -136,7 +136,7 @@ module _ {W : Type 0} (m : Ops W) (queue : List (Entry W)) (count : ℕ) (queue'
   pub queued_removed : (floor : ℕ → W) (rules : List (Rule W)) (facts target : ℕ) → Queued m floor rules facts target queue count
       → Honest m floor rules facts target x × Queued m floor rules facts target queue' (count - 1)
   queued_removed floor rules facts target q =
-      let parts : All (Honest m floor rules facts target) (x ∷ take (count - 1) queue') = all_shuffled _ _ _ out.contents q.honest in (
+      let parts : AllByRecursion (Honest m floor rules facts target) (x ∷ take (count - 1) queue') = all_shuffled _ _ _ out.contents q.honest in (
         parts.0,
         record {
           inside = omega (arith, out.within, out.long);

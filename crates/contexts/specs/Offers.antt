@@ -1,6 +1,6 @@
 -- Entries of the queue: each offers its group the weight of a chain.
 use Rattle.std.specs.Prelude.{◌≡◌, ℕ, ◌<◌, ◌≤◌, true, ◌⊎◌, List, length, take, slice_index}
-use Rattle.std.specs.List.{ContainsAt as Has, AllByRecursion as All}
+use Rattle.std.specs.List.{ContainsAt as Has, AllByRecursion}
 use Rattle.measure.specs.Ops.{Ops}
 use Rattle.queue.specs.declared.entry.Entry.{Entry}
 use Rattle.queue.specs.Entry.{entry_leb}
@@ -44,7 +44,7 @@ module _ {W : Type 0} (m : Ops W) (floor : ℕ → W) (rules : List (Rule W)) wh
   pub record Queued (facts target : ℕ) (queue : List (Entry W)) (count : ℕ) : Type 0 where
     pub inside : count ≤ length queue
     pub ordered : Heap (entry_leb m) (take count queue)
-    pub honest : All (Honest facts target) (take count queue)
+    pub honest : AllByRecursion (Honest facts target) (take count queue)
 
   -- From one queue to a later one: what was offered still is, entries stay honest where a chain from g weighs w,
   -- and each place in P is closed or offered the weight beside it joined with w.

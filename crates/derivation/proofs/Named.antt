@@ -1,18 +1,18 @@
 -- Fit depends only on what a guide answers for the facts that are named.
 use Rattle.std.proofs.Common.{◌≡◌, ℕ, zero, suc, ◌<◌, List, [], ◌∷◌, map, sym, refl, ap, ◌∙◌, ap₂}
-use Rattle.std.specs.List.{AllByRecursion as All}
+use Rattle.std.specs.List.{AllByRecursion}
 use Rattle.std.proofs.ByRecursion.{All-from_get_or}
 use Rattle.measure.specs.Ops.{Ops}
 use Rattle.derivation.specs.Rules.{rule_at}
 use Rattle.derivation.specs.Joins.{joined, without}
 use Rattle.derivation.specs.Theorems.{FitBelow}
 
-pub all_without : (P : ℕ → Type 0) (xs : List ℕ) (i : ℕ) → All P xs → All P (without xs i)
+pub all_without : (P : ℕ → Type 0) (xs : List ℕ) (i : ℕ) → AllByRecursion P xs → AllByRecursion P (without xs i)
 all_without P [] i h = tt
 all_without P (x ∷ xs) zero h = h.1
 all_without P (x ∷ xs) (suc i) h = (h.0, all_without P xs i h.1)
 
-pub map_agree : {W : Type 0} (f g : ℕ → W) (n : ℕ) → ((x : ℕ) → x < n → f x ≡ g x) → (xs : List ℕ) → All (λ x. x < n) xs → map f xs ≡ map g xs
+pub map_agree : {W : Type 0} (f g : ℕ → W) (n : ℕ) → ((x : ℕ) → x < n → f x ≡ g x) → (xs : List ℕ) → AllByRecursion (λ x. x < n) xs → map f xs ≡ map g xs
 map_agree f g n same [] h = refl
 map_agree f g n same (x ∷ xs) h = ap₂ ◌∷◌ (same x h.0) (map_agree f g n same xs h.1)
 
@@ -23,7 +23,7 @@ module _ {W : Type 0} (m : Ops W) where
     consistent = λ r stands.
         let a = rule_at m rules r in
         let k = fit.consistent r stands in
-        let named : All (λ x. x < facts) a.body = All-from_get_or (λ x. x < facts) a.body 0 (λ i h. bodies r i stands h) in
+        let named : AllByRecursion (λ x. x < facts) a.body = All-from_get_or (λ x. x < facts) a.body 0 (λ i h. bodies r i stands h) in
         let whole : map floor a.body ≡ map floor' a.body = map_agree floor floor' facts floors a.body named in
         record {
           floors =

@@ -1,7 +1,7 @@
 -- Filling the empty slots is entering the rules one after another.
 use Rattle.std.proofs.Common.{◌≡◌, ℕ, zero, suc, ◌<◌, ◌≤◌, List, [], ◌∷◌, length, take, set, sym, refl, ap, ◌∙◌, arith}
 use Rattle.std.proofs.lemmas.Bool.Decides.{nat_tests}
-use Rattle.std.specs.List.{AllByRecursion as All}
+use Rattle.std.specs.List.{AllByRecursion}
 use Rattle.sheet.specs.declared.rule.Rule.{Rule}
 use Rattle.sheet.specs.declared.slot.Slot.{Slot}
 use Rattle.sheet.specs.declared.slot.Slot.TheVariants.{Empty, Full}
@@ -43,7 +43,7 @@ module _ (xs : List Slot) (e : Entry) (some : 0 < free xs) where
   pub entered_first : Within e → enter_slots xs e.head e.body e.cost ≡ set xs (count xs) (Full (rule_of e))
   entered_first w = ap (λ a. after a (λ n. set xs n (Full (made e.head e.body e.cost))) xs) (enter_fits w)
 
-pub filled_entered : (es : List Entry) (xs : List Slot) → All Within es → length es ≤ free xs → filled es xs ≡ entered es xs
+pub filled_entered : (es : List Entry) (xs : List Slot) → AllByRecursion Within es → length es ≤ free xs → filled es xs ≡ entered es xs
 filled_entered [] xs w h = refl
 filled_entered (e ∷ es) xs w h =
     let some : 0 < free xs = omega arith in

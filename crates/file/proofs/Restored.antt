@@ -2,7 +2,7 @@
 use Rattle.std.proofs.Common.{◌≡◌, ℕ, zero, suc, ◌-◌, ◌≤◌, List, [], ◌∷◌, ◌++◌, length, Ok, Result, sym, refl, ap, ◌∙◌, subst, arith}
 use Rattle.std.proofs.lemmas.List.{append_assoc}
 use Rattle.std.proofs.lemmas.Bool.Decides.{nat_tests}
-use Rattle.std.specs.List.{flat_map, AllByRecursion as All}
+use Rattle.std.specs.List.{flat_map, AllByRecursion}
 use Rattle.sheet.specs.declared.slot.Slot.{Slot}
 use Rattle.sheet.specs.Refusals.{accepted}
 use Rattle.sheet.specs.Edits.{body_answer, cost_answer, room_answer}
@@ -48,7 +48,7 @@ count_back xs n bs h k =
     let t : accepted tt ≡ room_answer xs n = grind (arith, nat_tests) in
     tested_in (λ p. room_answer xs p.0) (short (spelled n ++ bs)) (n, bs) (short_back n bs h) t
 
-body_back : (size : ℕ) (ws bs : List ℕ) → All (λ f. f ≤ 65535) ws → Ok (ws, bs) ≡ body size (length ws) (flat_map spelled ws ++ bs)
+body_back : (size : ℕ) (ws bs : List ℕ) → AllByRecursion (λ f. f ≤ 65535) ws → Ok (ws, bs) ≡ body size (length ws) (flat_map spelled ws ++ bs)
 body_back size [] bs all = refl
 body_back size (w ∷ ws) bs all =
     rw (append_assoc (spelled w) (flat_map spelled ws) bs)
@@ -80,7 +80,7 @@ rule_laid size e bs w =
     (goes _ (body size (length e.body) c) (e.body, d) (body_back size e.body d w.body) _
     (goes _ (taken field.Cost cost_field size d) (e.cost, bs) (at_back field.Cost cost_field size d (e.cost, bs) (cost_back e.cost bs w.cost)) (Ok (e, bs)) refl)))
 
-pub rules_back : (size : ℕ) (es : List Entry) (bs : List ℕ) → All Within es → Ok (es, bs) ≡ rules size (length es) (flat_map written_rule es ++ bs)
+pub rules_back : (size : ℕ) (es : List Entry) (bs : List ℕ) → AllByRecursion Within es → Ok (es, bs) ≡ rules size (length es) (flat_map written_rule es ++ bs)
 rules_back size [] bs all = refl
 rules_back size (e ∷ es) bs all =
     let rest = flat_map written_rule es ++ bs in

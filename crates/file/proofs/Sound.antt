@@ -1,7 +1,7 @@
 -- What is read keeps the limits.
 use Rattle.std.proofs.Common.{◌≡◌, ℕ, zero, suc, ◌≤◌, List, [], ◌∷◌, length, Ok, Result, refl, ap, ◌∙◌, arith}
 use Rattle.std.proofs.lemmas.Bool.Decides.{nat_tests}
-use Rattle.std.specs.List.{AllByRecursion as All}
+use Rattle.std.specs.List.{AllByRecursion}
 use Rattle.sheet.specs.declared.slot.Slot.{Slot}
 use Rattle.sheet.specs.Refusals.{accepted}
 use Rattle.sheet.specs.Edits.{body_answer, cost_answer, room_answer}
@@ -55,7 +55,7 @@ count_was xs size bs p h =
     let s = short_was bs p t.0 in
     (s.0, room_fits xs p.0 t.1, s.1)
 
-body_small : (size n : ℕ) (bs : List ℕ) (q : List ℕ × List ℕ) → Ok q ≡ body size n bs → All (λ f. f ≤ 65535) q.0
+body_small : (size n : ℕ) (bs : List ℕ) (q : List ℕ × List ℕ) → Ok q ≡ body size n bs → AllByRecursion (λ f. f ≤ 65535) q.0
 body_small size zero bs q h = let e : q ≡ ([], bs) = cc in rw e tt
 body_small size (suc n) bs q h =
     let w = went _ (taken field.Body short size bs) q h in
@@ -98,7 +98,7 @@ rule_within size bs e rest k =
       cost = (cost_was size p.b.1 p.c p.is_c).1;
     })
 
-pub rules_within : (size n : ℕ) (bs : List ℕ) (es : List Entry) (end : List ℕ) → Ok (es, end) ≡ rules size n bs → (length es ≡ n) × All Within es
+pub rules_within : (size n : ℕ) (bs : List ℕ) (es : List Entry) (end : List ℕ) → Ok (es, end) ≡ rules size n bs → (length es ≡ n) × AllByRecursion Within es
 rules_within size zero bs es end k = let e : ◌≡◌ {A = List Entry × List ℕ} (es, end) ([], bs) = cc in let f : es ≡ [] = ap (λ p. p.0) e in rw f (refl, tt)
 rules_within size (suc n) bs es end k =
     let w = went _ (rule size bs) (es, end) k in

@@ -1,7 +1,7 @@
 -- Numbers written and read back.
 use Rattle.std.proofs.Common.{◌≡◌, ℕ, ◌+◌, ◌-◌, ◌*◌, ◌/◌, ◌%◌, ◌<◌, ◌≤◌, true, ◌||◌, eqb, ltb, leb, List, [], ◌∷◌, ◌++◌, Ok, Result, sym, refl, ap, ◌∙◌, ⊎_elim, arith}
 use Rattle.std.proofs.lemmas.Bool.{cond-true, cond-false, cases_lt, cases_eq, lt-ltb, le-ltb, le-leb, lt-leb, eq-eqb, ne_eqb, or_left, or_right, or_from}
-use Rattle.std.specs.List.{AllByRecursion as All}
+use Rattle.std.specs.List.{AllByRecursion}
 use Rattle.file.specs.Faults.{Reason, cut, malformed}
 use Rattle.file.specs.Number.{number, second, third}
 use Rattle.file.specs.Written.{spelled}
@@ -10,7 +10,7 @@ use Rattle.file.proofs.Spelled.{more_bytes, most_bytes}
 
 -- each entry is a byte
 abbrev pub Bytes : List ℕ → Type 0
-Bytes bs = All (λ b. b < 256) bs
+Bytes bs = AllByRecursion (λ b. b < 256) bs
 
 spelled_1 : (n : ℕ) → n < 128 → spelled n ≡ n ∷ []
 spelled_1 n h = cond-true (ltb n 128) _ _ (lt-ltb n 128 h)

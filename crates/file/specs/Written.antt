@@ -1,6 +1,6 @@
 -- A file from the other side: how a header and rules are written, and what that has to do with reading.
 use Rattle.std.specs.Prelude.{◌≡◌, ℕ, ◌+◌, ◌/◌, ◌%◌, ◌≤◌, cond, List, [], ◌∷◌, ◌++◌, length, Ok, Err, Result, nat_lt}
-use Rattle.std.specs.List.{flat_map, AllByRecursion as All}
+use Rattle.std.specs.List.{flat_map, AllByRecursion}
 use Rattle.sheet.specs.declared.slot.Slot.{Slot}
 use Rattle.sheet.specs.Slots.{count, free}
 use Rattle.file.specs.declared.header.Header.{Header}
@@ -27,7 +27,7 @@ pub record Fits (xs : List Slot) (h : Header) (es : List Entry) : Type 0 where
   pub new : count xs ≡ 0
   pub facts : h.facts ≤ 65535
   pub target : h.target ≤ 65535
-  pub within : All Within es
+  pub within : AllByRecursion Within es
   pub room : length es ≤ free xs
 
 -- Reading undoes writing, and accepts nothing else: a file is accepted exactly where it is what is written for some

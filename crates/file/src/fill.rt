@@ -1,6 +1,6 @@
 // Entering the rules of a file.
 ghost use Rattle.std.specs.Prelude.{◌≡◌, true, is_ok};
-ghost use Rattle.file.specs.Rules.{rules as rules-at};
+ghost use Rattle.file.specs.Rules.{rules as rules_at};
 ghost use Rattle.file.specs.Entering.{filled_by};
 
 use crate::rules::take_rule;
@@ -8,7 +8,7 @@ use sheet::slot::Slot;
 
 // Fills the next empty slots with so many rules, where the bytes hold them.
 pub fn fill(slots: &mut [Slot], size: usize, input: &[u8], count: u16)
-    ensures { is_ok (rules-at size count input.now) ≡ true → slots.new ≡ filled_by (rules-at size count input.now) slots.old }
+    ensures { is_ok (rules_at size count input.now) ≡ true → slots.new ≡ filled_by (rules_at size count input.now) slots.old }
 {
     let mut wanted = count;
     let mut left = input;

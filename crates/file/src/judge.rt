@@ -1,7 +1,7 @@
 // The judgement of a whole file, before any of it is entered.
 ghost use Rattle.std.specs.Prelude.{◌≡◌, length};
 ghost use Rattle.file.specs.Faults.{heard, mapped, report_of};
-ghost use Rattle.file.specs.Rules.{rules as rules-at};
+ghost use Rattle.file.specs.Rules.{rules as rules_at};
 ghost use Rattle.file.specs.Whole.{opening, closing, shown, rest_of};
 
 use crate::fault::{Fault, Field};
@@ -23,7 +23,7 @@ pub fn take_opening<'a>(bytes: &'a [u8], slots: &[Slot]) -> Result<(Header, u16,
 
 // The bytes after so many rules.
 fn skip_rules(size: usize, input: &[u8], count: u16) -> Result<&[u8], Fault>
-    ensures { rest_of report_of result ≡ mapped (λ q. q.1) (rules-at size count input.now) }
+    ensures { rest_of report_of result ≡ mapped (λ q. q.1) (rules_at size count input.now) }
 {
     let mut wanted = count;
     let mut left = input;

@@ -1,7 +1,7 @@
 // The rules of a file: each its head, the length of its body, its body and its cost.
 ghost use Rattle.std.specs.Prelude.{◌≡◌, ◌≤◌, take};
 ghost use Rattle.file.specs.Faults.{seen, mapped, report_of};
-ghost use Rattle.file.specs.Rules.{body as body_at, rule_of, rule as rule_at, rules as rules-at};
+ghost use Rattle.file.specs.Rules.{body as body_at, rule_of, rule as rule_at, rules as rules_at};
 
 use crate::fault::{Fault, Field};
 use crate::fields::{arity_at, cost_at, short_at};

@@ -1,6 +1,6 @@
 -- What putting and taking leave in a column, from what the sifts leave in its front.
 use Rattle.std.proofs.Common.{◌≡◌, ℕ, zero, suc, ◌+◌, ◌-◌, ◌<◌, ◌≤◌, Bool, true, List, [], ◌∷◌, ◌++◌, length, get_or, take, drop, set, sym, refl, ap, ◌∙◌, subst, arith}
-use Rattle.std.specs.List.{AllByRecursion as All}
+use Rattle.std.specs.List.{AllByRecursion}
 use Rattle.std.specs.List.Sorted.{IsPermutation}
 use Rattle.std.proofs.lemmas.List.{length-append, length-drop, length-set, length-take-le, length_push, take_at, take_more, take_more_set, drop_at, drop-set-lt, get_or_append_left, get_or-append_right, get_or-drop, get_or_read, get_or-take}
 use Rattle.std.proofs.lemmas.Slice.{drop-append-drop}
@@ -85,7 +85,7 @@ module _ {X : Type 0} (leb : X → X → Bool) (lin : Linear leb) (xs : List X) 
       let t = edges_from_heap leb (take count xs) heap i j d l h (omega arith) in
       cc
 
-  least : Heap leb (take count xs) → All (λ y. leb r y ≡ true) (take count xs)
+  least : Heap leb (take count xs) → AllByRecursion (λ y. leb r y ≡ true) (take count xs)
   least heap =
       let first : get_or (take count xs) 0 r ≡ r = get_or-take count xs 0 r some ∙ sym read in
       All-from_get_or (λ y. leb r y ≡ true) (take count xs) r

@@ -1,6 +1,6 @@
 -- Heap order, and what putting and taking do to a column.
 use Rattle.std.specs.Prelude.{◌≡◌, ℕ, ◌+◌, ◌-◌, ◌*◌, ◌/◌, ◌<◌, ◌≤◌, Bool, true, ◌⊎◌, List, ◌∷◌, length, take, drop, Option, Result, slice_index_or}
-use Rattle.std.specs.List.{AllByRecursion as All}
+use Rattle.std.specs.List.{AllByRecursion}
 use Rattle.std.specs.List.Sorted.{IsPermutation}
 use Rattle.std.specs.Result as results
 use Rattle.std.specs.Option as options
@@ -42,7 +42,7 @@ pub record Removed {X : Type 0} (leb : X → X → Bool) (xs : List X) (count : 
   pub contents : IsPermutation (take count xs) (x ∷ take (count - 1) ys)
   pub freed : (d : X) → slice_index_or ys (count - 1) d ≡ x
   pub beyond : drop count ys ≡ drop count xs
-  pub least : Heap leb (take count xs) → All (λ y. leb x y ≡ true) (take count xs)
+  pub least : Heap leb (take count xs) → AllByRecursion (λ y. leb x y ≡ true) (take count xs)
   pub ordered : Heap leb (take count xs) → Heap leb (take (count - 1) ys)
 
 abbrev pub Took : {X : Type 0} → (X → X → Bool) → List X → ℕ → List X → Option X → Type 0

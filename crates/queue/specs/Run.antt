@@ -1,6 +1,6 @@
 -- Runs of puts and takes from an empty queue, judged by what was put in and not yet taken out.
 use Rattle.std.specs.Prelude.{◌≡◌, ℕ, ◌<◌, ◌≤◌, Bool, true, List, [], ◌∷◌, ◌++◌, length, take, drop, Result, slice_index_or}
-use Rattle.std.specs.List.{ContainsAt as Has, AllByRecursion as All}
+use Rattle.std.specs.List.{ContainsAt as Has, AllByRecursion}
 use Rattle.std.specs.List.Sorted.{IsPermutation}
 use Rattle.std.specs.Result as results
 use Rattle.queue.specs.declared.run.Op.{Op}
@@ -50,7 +50,7 @@ Right leb room held (Put x) (Taken y) = ⊥
 Right leb room held (Put x) Empty = ⊥
 Right leb room held Take Added = ⊥
 Right leb room held Take Refused = ⊥
-Right leb room held Take (Taken x) = Has held x × All (λ y. leb x y ≡ true) held
+Right leb room held Take (Taken x) = Has held x × AllByRecursion (λ y. leb x y ≡ true) held
 Right leb room held Take Empty = held ≡ []
 
 -- Each of the first n replies is right, given what was put in and not yet taken out before it.

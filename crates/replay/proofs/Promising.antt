@@ -1,7 +1,7 @@
 -- The whole promise, from the search's own promise and the rules that a list leaves.
 use Rattle.std.proofs.Common.{◌≡◌, ℕ, zero, suc, ◌<◌, ◌≤◌, Bool, true, false, not, ◌&&◌, ◌||◌, eqb, ltb, List, [], ◌∷◌, ◌++◌, map, length, get_or, replicate, Some, None, Option, sym, refl, ap, ◌∙◌, subst, arith}
 use lib.ListN.{length-map}
-use Rattle.std.specs.List.{AllByRecursion as All}
+use Rattle.std.specs.List.{AllByRecursion}
 use Rattle.std.proofs.lemmas.Bool.{and_from, or_from, lt-ltb, le-ltb, le-leb, ne_eqb, cond-true, cond-false}
 use Rattle.measure.specs.Ops.{Ops, Laws}
 use Rattle.sheet.specs.declared.rule.Rule.{Rule}
@@ -48,7 +48,7 @@ module _ {W : Type 0} (m : Ops W) (facts : ℕ) where
   within_all : (qs : List Rule)
       → ((r : ℕ) → theory.Standing m (map (weighing m) (map read qs)) r → (theory.rule_at m (map (weighing m) (map read qs)) r).head < facts)
       → ((r i : ℕ) → theory.Standing m (map (weighing m) (map read qs)) r → i < length (theory.rule_at m (map (weighing m) (map read qs)) r).body → get_or (theory.rule_at m (map (weighing m) (map read qs)) r).body i 0 < facts)
-      → All (λ q. within facts q ≡ true) qs
+      → AllByRecursion (λ q. within facts q ≡ true) qs
   within_all [] h k = tt
   within_all (q ∷ qs) h k =
       (within_one q q.struck refl (λ e. h 0 e) (λ e j l. k 0 j e l), within_all qs (λ r s. h (suc r) s) (λ r i s l. k (suc r) i s l))
@@ -57,11 +57,11 @@ module _ {W : Type 0} (m : Ops W) (facts : ℕ) where
   scan_none k zero = refl
   scan_none k (suc left) = refl
 
-  scan_all : (qs : List Rule) (left k : ℕ) → All (λ q. within facts q ≡ true) qs → verdict (scan facts k (laid qs left)) ≡ accepted tt
+  scan_all : (qs : List Rule) (left k : ℕ) → AllByRecursion (λ q. within facts q ≡ true) qs → verdict (scan facts k (laid qs left)) ≡ accepted tt
   scan_all [] left k a = ap verdict (scan_none k left)
   scan_all (q ∷ qs) left k a = ap verdict (cond-true (within facts q) _ _ a.0) ∙ scan_all qs left (suc k) a.1
 
-  passes_all : (qs : List Rule) → All (λ q. within facts q ≡ true) qs → passes facts (map Full qs) ≡ true
+  passes_all : (qs : List Rule) → AllByRecursion (λ q. within facts q ≡ true) qs → passes facts (map Full qs) ≡ true
   passes_all [] a = refl
   passes_all (q ∷ qs) a = and_from _ _ a.0 (passes_all qs a.1)
 
@@ -70,7 +70,7 @@ module _ {W : Type 0} {m : Ops W} (laws : Laws m) (n : ℕ) (few : n ≤ 16000) 
   abbrev rules : List (theory.Rule W)
   rules = map (weighing m) rs
 
-  keep : All (λ q. within facts q ≡ true) t.records
+  keep : AllByRecursion (λ q. within facts q ≡ true) t.records
   keep =
       within_all m facts t.records
       (subst (λ l. (r : ℕ) → theory.Standing m (map (weighing m) l) r → (theory.rule_at m (map (weighing m) l) r).head < facts) (sym t.reads) o.heads)

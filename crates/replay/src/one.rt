@@ -1,6 +1,6 @@
 // One call of a list.
 ghost use Rattle.std.specs.Prelude.{◌≡◌, true, length};
-ghost use Rattle.replay.specs.Replies.{said, giving, entered as entered-as, changed as changed-as, found as found_as};
+ghost use Rattle.replay.specs.Replies.{said, giving, entered as entered_as, changed as changed_as, found as found_as};
 ghost use Rattle.replay.specs.Run.{replied, next};
 ghost use Rattle.search.specs.Answered.{work_length};
 ghost use Rattle.search.specs.Left.{Scratch};
@@ -18,7 +18,7 @@ use sheet::slot::Slot;
 
 // The reply to an entering.
 fn entered<W: Measure>(answer: Result<u16, Refusal>) -> Reply<W>
-    ensures { said result ≡ giving entered-as (answer_of answer) }
+    ensures { said result ≡ giving entered_as (answer_of answer) }
 {
     match answer {
         Ok(number) => Reply::Entered(number),
@@ -28,7 +28,7 @@ fn entered<W: Measure>(answer: Result<u16, Refusal>) -> Reply<W>
 
 // The reply to a repricing or a striking.
 fn changed<W: Measure>(answer: Result<(), Refusal>) -> Reply<W>
-    ensures { said result ≡ giving (λ _. changed-as) (answer_of answer) }
+    ensures { said result ≡ giving (λ _. changed_as) (answer_of answer) }
 {
     match answer {
         Ok(()) => Reply::Changed,

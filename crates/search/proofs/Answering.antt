@@ -1,7 +1,7 @@
 -- From the columns of a finished search to what the definitions give.
 use Rattle.std.proofs.Common.{◌≡◌, ℕ, ◌<◌, ◌≤◌, Bool, true, false, cond, List, [], ◌∷◌, ◌++◌, map, reverse, length, get_or, take, drop, Some, None, Ok, Err, Result, sym, refl, ap, ◌∙◌, arith, length-take}
 use mathlib.Core.List.{reverse-reverse, reverse-cons}
-use Rattle.std.specs.List.{AllByRecursion as All}
+use Rattle.std.specs.List.{AllByRecursion}
 use Rattle.std.proofs.lemmas.List.FromFn.{fill_by_all}
 use Rattle.std.proofs.lemmas.List.{length-reverse, length-map}
 use Rattle.std.proofs.ByRecursion.{All-push, All-map, All-weaker}
@@ -22,7 +22,7 @@ use Rattle.search.specs.Shown.{Shows, run_answer}
 use Rattle.search.specs.Answered.{column, told_found}
 use Rattle.search.proofs.Matching.{body_is}
 
-all_reverse : {A : Type 0} (P : A → Type 0) (l : List A) → All P l → All P (reverse l)
+all_reverse : {A : Type 0} (P : A → Type 0) (l : List A) → AllByRecursion P l → AllByRecursion P (reverse l)
 all_reverse P [] h = tt
 all_reverse P (x ∷ l) h = rw (reverse-cons x l) (All-push P (reverse l) x (all_reverse P l h.1) h.0)
 
@@ -31,7 +31,7 @@ abbrev pub Named : {W : Type 0} → List Slot → Closed W → Type 0
 Named xs c = (c.rule < length xs) × ((rule_at xs c.rule).struck ≡ false) × ((rule_at xs c.rule).head ≡ c.fact)
 
 module _ {W : Type 0} (m : Ops W) (xs : List Slot) where
-  unwound_is : (cs : List (Closed W)) → All (Named xs) cs → (needed : List ℕ)
+  unwound_is : (cs : List (Closed W)) → AllByRecursion (Named xs) cs → (needed : List ℕ)
       → unwound_rules xs (map (λ c. c.rule) cs) needed ≡ unwound m (weighted m xs) cs needed
   unwound_is [] h needed = refl
   unwound_is (c ∷ cs) h needed =
@@ -43,7 +43,7 @@ module _ {W : Type 0} (m : Ops W) (xs : List Slot) where
         ap (λ l. reverse (unwound_rules xs l (target ∷ []))) (ap reverse shown.order_is ∙ reverse-reverse _)
         ∙ ap reverse (unwound_is s.closed shown.named (target ∷ []))
 
-    pub rules_stand : All (λ r. (r < length xs) × ((rule_at xs r).struck ≡ false)) (take closed order)
+    pub rules_stand : AllByRecursion (λ r. (r < length xs) × ((rule_at xs r).struck ≡ false)) (take closed order)
     rules_stand = rw shown.order_is (all_reverse _ _ (All-map _ (λ (c : Closed W). c.rule) s.closed (All-weaker (Named xs) _ (λ c h. (h.0, h.1)) s.closed shown.named)))
 
     pub order_long : closed ≤ length order

@@ -1,6 +1,6 @@
 -- Putting an entry into a filled queue, and taking one out.
 use Rattle.std.proofs.Common.{◌≡◌, ℕ, ◌+◌, ◌-◌, ◌<◌, ◌≤◌, Bool, true, false, cond, not, ◌&&◌, ◌||◌, eqb, List, [], ◌∷◌, take, count_by, sym, refl, ap, ◌∙◌, inl, inr, arith}
-use Rattle.std.specs.List.{AllByRecursion as All}
+use Rattle.std.specs.List.{AllByRecursion}
 use Rattle.std.proofs.lemmas.List.Sums.{sum_by-cons}
 use Rattle.std.proofs.lemmas.List.Sorted.{sum_by-IsPermutation}
 use Rattle.std.proofs.ByRecursion.{all_shuffled}
@@ -16,7 +16,7 @@ abbrev pub bit : Bool → ℕ
 bit b = cond b 1 0
 
 -- a list with an entry of rule r among its elements
-pub has_rule : {W : Type 0} (P : Entry W → Type 0) (r : ℕ) (es : List (Entry W)) → All P es → 0 < count_by (λ e. eqb e.rule r) es → (e : Entry W) × P e × (e.rule ≡ r)
+pub has_rule : {W : Type 0} (P : Entry W → Type 0) (r : ℕ) (es : List (Entry W)) → AllByRecursion P es → 0 < count_by (λ e. eqb e.rule r) es → (e : Entry W) × P e × (e.rule ≡ r)
 has_rule P r [] all h = absurd (omega arith)
 has_rule P r (e ∷ es) all h =
     elim (cases_Bool (eqb e.rule r)) [
@@ -92,7 +92,7 @@ module _ {W : Type 0} (m : Ops W) (of : ℕ → Entry W) where
     };
   }
     where
-      parts : All (λ e. e ≡ of e.rule) (x ∷ take (count - 1) queue')
+      parts : AllByRecursion (λ e. e ≡ of e.rule) (x ∷ take (count - 1) queue')
       parts = all_shuffled _ _ _ a.contents f.entries
 
       total : (r : ℕ) → bit (flag r) ≡ bit (eqb x.rule r) + count_by (λ e. eqb e.rule r) (take (count - 1) queue')
@@ -118,7 +118,7 @@ module _ {W : Type 0} (m : Ops W) (of : ℕ → Entry W) where
           let q : found.0 ≡ of r = found.1.1 ∙ ap of found.2 in
           rw q at found.1.0
         where
-          all_both : (P Q : Entry W → Type 0) (es : List (Entry W)) → All P es → All Q es → All (λ e. P e × Q e) es
+          all_both : (P Q : Entry W → Type 0) (es : List (Entry W)) → AllByRecursion P es → AllByRecursion Q es → AllByRecursion (λ e. P e × Q e) es
           all_both P Q [] p q = tt
           all_both P Q (e ∷ es) p q = ((p.0, q.0), all_both P Q es p.1 q.1)
 

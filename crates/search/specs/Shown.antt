@@ -1,6 +1,6 @@
 -- How the columns show a state of the search.
 use Rattle.std.specs.Prelude.{◌≡◌, ℕ, ◌+◌, ◌<◌, Bool, false, cond, not, List, [], ◌∷◌, map, reverse, length, take, Some, None, Ok, Err, count_by, Option, Result, ◌==◌, nat_eq, slice_index, slice_index_or}
-use Rattle.std.specs.List.{AllByRecursion as All}
+use Rattle.std.specs.List.{AllByRecursion}
 use Rattle.measure.specs.Ops.{Ops}
 use Rattle.sheet.specs.declared.rule.Rule.{Rule}
 use Rattle.sheet.specs.declared.slot.Slot.{Slot}
@@ -31,7 +31,7 @@ pub record Shows {W : Type 0} (m : Ops W) (xs : List Slot) (s : State W) (weight
   pub reasons_at : (f : ℕ) → slice_index_or reasons f no_reason ≡ reason_in s.closed f
   pub order_is : take closed order ≡ reverse (map (λ c. c.rule) s.closed)
   -- each closed fact is the head of its rule, which stands
-  pub named : All (λ c. (c.rule < length xs) × ((rule_at xs c.rule).struck ≡ false) × ((rule_at xs c.rule).head ≡ c.fact)) s.closed
+  pub named : AllByRecursion (λ c. (c.rule < length xs) × ((rule_at xs c.rule).struck ≡ false) × ((rule_at xs c.rule).head ≡ c.fact)) s.closed
   pub closed_is : closed ≡ length s.closed
   pub taken_is : taken ≡ length s.taken
 

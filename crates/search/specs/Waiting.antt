@@ -1,6 +1,6 @@
 -- The rules whose body is closed throughout, and the queue of their entries.
 use Rattle.std.specs.Prelude.{◌≡◌, ℕ, ◌≤◌, Bool, true, cond, not, ◌&&◌, ltb, List, length, take, count_by, ◌==◌, nat_eq, nat_lt, slice_index}
-use Rattle.std.specs.List.{AllByRecursion as All}
+use Rattle.std.specs.List.{AllByRecursion}
 use Rattle.measure.specs.Ops.{Ops}
 use Rattle.queue.specs.declared.entry.Entry.{Entry}
 use Rattle.queue.specs.Entry.{entry_leb}
@@ -28,7 +28,7 @@ waiting xs taken missing r = nat_lt r (length missing) && (not (rule_at xs r).st
 pub record Filled {W : Type 0} (m : Ops W) (entry_of : ℕ → Entry W) (flag : ℕ → Bool) (queue : List (Entry W)) (count : ℕ) : Type 0 where
   pub inside : count ≤ length queue
   pub ordered : Heap (entry_leb m) (take count queue)
-  pub entries : All (λ e. e ≡ entry_of e.rule) (take count queue)
+  pub entries : AllByRecursion (λ e. e ≡ entry_of e.rule) (take count queue)
   pub members : (r : ℕ) → count_by (λ e. nat_eq e.rule r) (take count queue) ≡ cond (flag r) 1 0
 
 -- The entry of rule r under the weights of a column.

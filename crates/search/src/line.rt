@@ -4,7 +4,7 @@ ghost use Rattle.derivation.specs.Search.{among};
 ghost use Rattle.search.specs.Unwound.{unwound_rules};
 ghost use Rattle.sheet.specs.Rules.{all_below, body_of};
 ghost use Rattle.sheet.specs.Slots.{passes, rule_at};
-ghost use Rattle.std.specs.List.{AllByRecursion as All};
+ghost use Rattle.std.specs.List.{AllByRecursion};
 
 use sheet::slot::Slot;
 
@@ -46,7 +46,7 @@ fn unwind_rule(
 fn unwind(slots: &[Slot], order: &[u16], target: u16, needed: &mut [u16], line: &mut [u16]) -> usize
     requires known { (target < length needed.old) × (length order.now ≤ length line.old) }
     requires within { passes (length needed.old) slots.now ≡ true }
-    requires stand { All (λ r. (r < length slots.now) × ((rule_at slots.now r).struck ≡ false)) order.now }
+    requires stand { AllByRecursion (λ r. (r < length slots.now) × ((rule_at slots.now r).struck ≡ false)) order.now }
     ensures few { result ≤ length order.now }
     ensures written { take result line.new ≡ unwound_rules slots.now (reverse order.now) (target ∷ []) }
     ensures beyond { drop result line.new ≡ drop result line.old }
@@ -72,7 +72,7 @@ pub(crate) fn draw(
 ) -> usize
     requires known { (target < length needed.old) × (length order.now ≤ length line.old) }
     requires within { passes (length needed.old) slots.now ≡ true }
-    requires stand { All (λ r. (r < length slots.now) × ((rule_at slots.now r).struck ≡ false)) order.now }
+    requires stand { AllByRecursion (λ r. (r < length slots.now) × ((rule_at slots.now r).struck ≡ false)) order.now }
     ensures counts { result ≡ length (unwound_rules slots.now (reverse order.now) (target ∷ [])) }
     ensures few { result ≤ length order.now }
     ensures written { line.new ≡ reverse (unwound_rules slots.now (reverse order.now) (target ∷ [])) ++ drop result line.old }

@@ -1,6 +1,6 @@
 // A slot of a sheet, and how many of a column are taken or free.
 ghost use Rattle.std.specs.Prelude.{◌≡◌};
-ghost use Rattle.sheet.specs.Slots.{used as first-slots, count, free, rule_in};
+ghost use Rattle.sheet.specs.Slots.{used as first_slots, count, free, rule_in};
 
 use crate::rule::{BODY_LIMIT, Rule};
 
@@ -35,7 +35,7 @@ impl Slot {
 
 // The slots that a call uses.
 pub fn used(slots: &[Slot]) -> &[Slot]
-    ensures { result.now ≡ first-slots slots.now }
+    ensures { result.now ≡ first_slots slots.now }
 {
     let end = slots.len().min(SLOT_LIMIT);
     &slots[0..end]

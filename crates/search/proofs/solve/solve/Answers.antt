@@ -1,5 +1,5 @@
 use Rattle.std.proofs.Common.{◌≡◌, ℕ, ◌<◌, true, false, ◌++◌, length, take, drop, sym, ap, ◌∙◌, subst, arith}
-use Rattle.std.specs.List.{AllByRecursion as All}
+use Rattle.std.specs.List.{AllByRecursion}
 use Rattle.std.proofs.lemmas.Result.{err_from_is_err_and}
 use Rattle.sheet.specs.declared.refusal.Refusal.{Refusal}
 use Rattle.sheet.specs.Refusals.{refused, number, told, answer, after}
@@ -39,7 +39,7 @@ finish-requires g c =
         omega (arith, c.explore.auto.order, c.split_at_mut-order.ensures.front_len, c.requires.long.1),
       );
       within = subst (λ (n : ℕ). passes n c.args.slots.now ≡ true) (sym w) c.requires.within;
-      stand = subst (λ (n : ℕ). All (λ r. (r < length c.args.slots.now) × ((rule_at c.args.slots.now r).struck ≡ false)) (take n c.explore.new.order)) (sym k.closed_is) (rules_stand m _ _ _ _ _ _ _ b.shows);
+      stand = subst (λ (n : ℕ). AllByRecursion (λ r. (r < length c.args.slots.now) × ((rule_at c.args.slots.now r).struck ≡ false)) (take n c.explore.new.order)) (sym k.closed_is) (rules_stand m _ _ _ _ _ _ _ b.shows);
     }
 
 pub returns : goal.returns
