@@ -10,7 +10,7 @@ steps_limit = 65535
 abbrev pub pair : ℕ → ℕ → TotalSteps
 pair t s = record { total = t; steps = s }
 
--- In range: a total below the limit with at most steps-limit steps. At the limit there is the one pair (limit, 0).
+-- In range: a total below the limit with at most steps_limit steps. At the limit there is the one pair (limit, 0).
 abbrev pub inside : TotalSteps → Bool
 inside a = nat_lt a.total total_limit && nat_le a.steps steps_limit
 

@@ -14,7 +14,7 @@ pub record Inference : Type 0 where
   pub cost : ℕ
   pub struck : Bool
 
--- The body of a rule: as many of its places as its arity says, at most body-limit.
+-- The body of a rule: as many of its places as its arity says, at most body_limit.
 abbrev pub body_of : Rule → List ℕ
 body_of r = take (min r.arity body_limit) r.body
 

@@ -5,7 +5,7 @@ use Rattle.sheet.specs.declared.slot.Slot.{Slot}
 use Rattle.sheet.specs.declared.slot.Slot.TheVariants.{Empty, Full}
 use Rattle.sheet.specs.Rules.{Inference, read, within, made, marked}
 
--- A call uses the first slot-limit slots at most.
+-- A call uses the first slot_limit slots at most.
 abbrev pub slot_limit : ℕ
 slot_limit = 16000
 
