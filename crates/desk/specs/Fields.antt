@@ -1,5 +1,6 @@
--- The words of a line, read as numbers by their index.
+-- The words of a line, read by their index.
 use Rattle.std.specs.Prelude.{ℕ, cond, List, [], length, Ok, Err, Result, nat_lt, slice_index_or}
+use Rattle.std.specs.Borrow.{Bor}
 use Rattle.desk.specs.declared.fault.Fault.{Fault}
 use Rattle.desk.specs.declared.fault.Field.{Field}
 use Rattle.desk.specs.declared.fault.Kind.{Kind}
@@ -7,6 +8,15 @@ use Rattle.desk.specs.declared.fault.Kind.TheVariants.{Missing, NotANumber, TooL
 use Rattle.desk.specs.declared.number.Wrong.{Wrong}
 use Rattle.desk.specs.declared.number.Wrong.TheVariants.{Form, Large}
 use Rattle.desk.specs.Numbers.{number}
+
+-- The word at an index.
+abbrev pub word_at : List (List ℕ) → ℕ → Field → Result (List ℕ) Fault
+word_at words i field = cond (nat_lt i (length words)) (Ok (slice_index_or words i [])) (Err (record { index = i; kind = Missing field }))
+
+-- An answered word, as its bytes.
+abbrev pub seen : Result (Bor (List ℕ)) Fault → Result (List ℕ) Fault
+seen (Ok w) = Ok w.now
+seen (Err e) = Err e
 
 -- What a word that is not the number wanted is told as.
 abbrev pub wrong_kind : Wrong → Field → ℕ → Kind

@@ -1,3 +1,4 @@
+pub mod Edits
 pub mod Fields
 pub mod Numbers
 pub mod Pieces

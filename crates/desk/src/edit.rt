@@ -1,4 +1,6 @@
 // The edits of a sheet.
+ghost use Rattle.desk.specs.Edits.{Makes};
+
 use crate::failure::Failure;
 use crate::fault::Field;
 use crate::words::{check_end, cost_at, short_at};
@@ -61,7 +63,9 @@ pub(crate) fn parse_strike(words: &[&[u8]]) -> Result<Edit, Failure> {
 
 impl Edit {
     // The edit as a call of a list.
-    pub fn call<'a, G>(&'a self) -> Call<'a, G> {
+    pub fn call<'a, G>(&'a self) -> Call<'a, G>
+        ensures { Makes self.now result }
+    {
         match self {
             Edit::Enter { head, body, cost } => Call::Enter {
                 head: *head,

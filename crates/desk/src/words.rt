@@ -1,12 +1,15 @@
 // The words of a line, read by their index.
 ghost use Rattle.std.specs.Prelude.{◌≡◌, ◌≤◌, map, length, IfOk};
-ghost use Rattle.desk.specs.Fields.{wrong_kind, number_at, ended};
+ghost use Rattle.desk.specs.Fields.{word_at, seen, wrong_kind, number_at, ended};
+ghost use Rattle.desk.specs.declared.fault.Field.TheVariants.{Cost};
 
 use crate::fault::{Fault, Field, Kind};
 use crate::number::{Wrong, parse_number};
 
 // The word at an index.
-pub fn word_at<'a>(words: &[&'a [u8]], index: usize, field: Field) -> Result<&'a [u8], Fault> {
+pub fn word_at<'a>(words: &[&'a [u8]], index: usize, field: Field) -> Result<&'a [u8], Fault>
+    ensures { seen result ≡ word_at (map (λ x. x.now) words.now) index field }
+{
     if index >= words.len() {
         let kind = Kind::Missing(field);
         return Err(Fault { index, kind });
@@ -43,7 +46,9 @@ fn number_at(words: &[&[u8]], index: usize, field: Field, limit: u32) -> Result<
 }
 
 // The cost at an index.
-pub fn cost_at(words: &[&[u8]], index: usize) -> Result<u32, Fault> {
+pub fn cost_at(words: &[&[u8]], index: usize) -> Result<u32, Fault>
+    ensures { result ≡ number_at (map (λ x. x.now) words.now) index Cost 4294967295 }
+{
     number_at(words, index, Field::Cost, u32::MAX)
 }
 

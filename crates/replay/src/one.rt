@@ -56,8 +56,8 @@ pub(crate) fn run_one<W: Measure, G: Guide<W>>(
     queue: &mut [Entry<W>],
     work: &mut [u16],
 ) -> Reply<W>
-    ensures replies { said result ≡ replied W.Measure.ops (record { weights = length weights.entry.now; reasons = length reasons.old; line = length line.old; queue = length queue.old; work = length work.old }) G.Guide.floor G.Guide.rest (record { slots = slots.entry.now; weights = weights.entry.now; reasons = reasons.old; line = line.old }) call.now }
-    ensures leaves { record { slots = slots.exit.now; weights = weights.exit.now; reasons = reasons.new; line = line.new } ≡ next W.Measure.ops (record { weights = length weights.entry.now; reasons = length reasons.old; line = length line.old; queue = length queue.old; work = length work.old }) G.Guide.floor G.Guide.rest (record { slots = slots.entry.now; weights = weights.entry.now; reasons = reasons.old; line = line.old }) call.now }
+    ensures replies { said result ≡ replied W.Measure.ops (record { weights = length weights.old; reasons = length reasons.old; line = length line.old; queue = length queue.old; work = length work.old }) G.Guide.floor G.Guide.rest (record { slots = slots.old; weights = weights.old; reasons = reasons.old; line = line.old }) call.now }
+    ensures leaves { record { slots = slots.new; weights = weights.new; reasons = reasons.new; line = line.new } ≡ next W.Measure.ops (record { weights = length weights.old; reasons = length reasons.old; line = length line.old; queue = length queue.old; work = length work.old }) G.Guide.floor G.Guide.rest (record { slots = slots.old; weights = weights.old; reasons = reasons.old; line = line.old }) call.now }
     ensures queues { Scratch true (length slots.old) queue.old queue.new }
     ensures works { Scratch true (work_length 4096 (length slots.old)) work.old work.new }
 {

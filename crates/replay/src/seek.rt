@@ -27,7 +27,7 @@ pub(crate) fn seek<W: Measure, G: Guide<W>>(
     queue: &mut [Entry<W>],
     work: &mut [u16],
 ) -> Result<Found<W>, Refusal>
-    ensures answered { answer result ≡ sought W.Measure.ops (G.Guide.floor guide.now) (G.Guide.rest guide.now) slots.now (record { weights = length weights.entry.now; reasons = length reasons.old; line = length line.old; queue = length queue.old; work = length work.old }) facts target }
+    ensures answered { answer result ≡ sought W.Measure.ops (G.Guide.floor guide.now) (G.Guide.rest guide.now) slots.now (record { weights = length weights.old; reasons = length reasons.old; line = length line.old; queue = length queue.old; work = length work.old }) facts target }
     ensures weighs { weights.new ≡ weights_left W.Measure.ops (G.Guide.rest guide.now) (shown slots.now) facts target (answer result) weights.old }
     ensures gives { reasons.new ≡ reasons_left W.Measure.ops (G.Guide.rest guide.now) (shown slots.now) facts target (answer result) reasons.old }
     ensures draws { line.new ≡ line_left W.Measure.ops (G.Guide.rest guide.now) (shown slots.now) facts target (answer result) line.old }
