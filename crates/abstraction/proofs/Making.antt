@@ -1,34 +1,36 @@
 -- Making a guide: the tests, the steps, and what it promises.
-use Rattle.std.proofs.Common.{◌≡◌, ℕ, zero, suc, ◌-◌, ◌<◌, ◌≤◌, Bool, true, false, cond, ◌&&◌, ◌||◌, eqb, ltb, leb, List, [], ◌∷◌, ◌++◌, map, length, get_or, take, drop, is_ok, Ok, Err, Result, sym, refl, ap, ◌∙◌, subst, arith, length-take}
+use Rattle.std.proofs.Common.{◌≡◌, ℕ, zero, suc, ◌+◌, ◌-◌, ◌<◌, ◌≤◌, Bool, true, false, cond, ◌||◌, eqb, ltb, List, [], ◌∷◌, ◌++◌, map, length, get_or, take, drop, sym, refl, ap, ◌∙◌, subst, arith, length-take}
 use Rattle.std.proofs.lemmas.List.FromFn.{length-map-range_with_len}
-use Rattle.std.proofs.lemmas.List.{append-nil, drop_all, length-append, get_or-take}
-use Rattle.std.proofs.lemmas.Bool.{and_parts, and_from, both_ways, cond-true, or_parts, ltb-true, ltb-false, leb-true, le-leb, eqb-false, not-true}
+use Rattle.std.proofs.lemmas.List.{length-append, get_or-take, drop-drop}
+use Rattle.std.proofs.lemmas.Bool.{and_parts, both_ways, or_parts, ltb-true, ltb-false, eqb-false, not-true}
+use Rattle.std.proofs.lemmas.Bool.Decides.{nat_tests}
 use Rattle.measure.specs.Ops.{Ops, Laws}
-use Rattle.sheet.specs.declared.refusal.Refusal.{Refusal}
-use Rattle.sheet.specs.declared.slot.Slot.{Slot}
-use Rattle.sheet.specs.declared.slot.Slot.TheVariants.{Empty, Full}
-use Rattle.sheet.specs.Refusals.{Answer, accepted, refused, Told, answer}
+use Rattle.sheet.specs.Slots.{Slot, count, free, passes}
+use Rattle.std.specs.Prelude.{None, Some}
+use Rattle.sheet.specs.Refusals.{Answer, accepted, refused, Told}
 use Rattle.sheet.specs.Rules.{all_below, within}
-use Rattle.sheet.specs.Slots.{count, free, passes}
 use Rattle.sheet.proofs.Within.{below_at, within_parts}
 use Rattle.derivation.specs.Rules.{rule_at, Standing}
 use Rattle.derivation.specs.Contexts.{context}
+use Rattle.derivation.specs.Fit.{Fit}
 use Rattle.derivation.specs.Maps.{fold_rules, LeastChain}
 use Rattle.derivation.specs.Trees.{Derivable, Lightest}
 use Rattle.derivation.proofs.Chains.{chain_least}
+use Rattle.guide.specs.Map.{by_group}
 use Rattle.guide.specs.Weighted.{weighted}
 use Rattle.search.specs.Answered.{column, work_length}
 use Rattle.search.specs.Entries.{held}
-use Rattle.search.specs.Surveyed.{survey_long, Floors}
+use Rattle.search.specs.Left.{Scratch}
+use Rattle.search.specs.Surveyed.{Floors}
 use Rattle.search.proofs.Promised.{column_at, floors as floors_by}
-use Rattle.contexts.specs.Answered.{queue_length, contexts_long}
+use Rattle.contexts.specs.Answered.{queue_length}
 use Rattle.abstraction.specs.Fold.{group_of, fold_slot, map_answer}
 use Rattle.abstraction.specs.Made.{Made}
 use Rattle.abstraction.specs.Make.{make_long, make_answer, floors_left, rests_left}
-use Rattle.abstraction.proofs.Fits.{least_same}
+use Rattle.abstraction.proofs.Fits.{least_same, made_fits}
 use Rattle.abstraction.proofs.Folding.{free_bound}
 use Rattle.abstraction.proofs.Names.{slots_name}
-use Rattle.abstraction.proofs.Promised.{past}
+use Rattle.abstraction.proofs.Promised.{past, map_grouped}
 use Rattle.abstraction.proofs.Reading.{weighted_fold}
 
 -- The tests.
@@ -68,16 +70,6 @@ ready xs facts target groups n second long e =
       mapped = given.1;
     }
 
--- the answer at what the view shows
-pub answer_shown : {xs slots : List Slot} {facts f : ℕ} → slots ≡ xs → f ≡ facts → (target : ℕ) (groups : List ℕ) (n : ℕ) (second : List Slot) (b : Bool) (i j k l o w : ℕ)
-    → b ≡ make_long f (length slots) n i j k l o w → {a : Answer (Unit {0})} → a ≡ make_answer slots f target groups n second b
-    → a ≡ make_answer xs facts target groups n second (make_long facts (length xs) n i j k l o w)
-answer_shown {xs} {slots} {facts} {f} p q target groups n second b i j k l o w h e =
-    e
-    ∙ ap (make_answer slots f target groups n second) h
-    ∙ ap (λ z. make_answer z f target groups n second (make_long f (length z) n i j k l o w)) p
-    ∙ ap (λ z. make_answer xs z target groups n second (make_long z (length xs) n i j k l o w)) q
-
 -- Lengths that are enough.
 pub record Long (facts rules n groups floors rests reasons queue work : ℕ) : Type 0 where
   pub for_map : facts ≤ groups
@@ -88,62 +80,40 @@ pub record Long (facts rules n groups floors rests reasons queue work : ℕ) : T
   pub for_work : work_length n rules ≤ work
 
 pub long_parts : (f r n a b c d e w : ℕ) → make_long f r n a b c d e w ≡ true → Long f r n a b c d e w
-long_parts f r n a b c d e w h =
-    let p = and_parts (leb f a) (leb n b && (leb n c && (leb n d && (leb (queue_length r) e && leb (work_length n r) w)))) h in
-    let q = and_parts (leb n b) (leb n c && (leb n d && (leb (queue_length r) e && leb (work_length n r) w))) p.1 in
-    let s = and_parts (leb n c) (leb n d && (leb (queue_length r) e && leb (work_length n r) w)) q.1 in
-    let t = and_parts (leb n d) (leb (queue_length r) e && leb (work_length n r) w) s.1 in
-    let u = and_parts (leb (queue_length r) e) (leb (work_length n r) w) t.1 in
-    record {
-      for_map = leb-true f a p.0;
-      for_floors = leb-true n b q.0;
-      for_rests = leb-true n c s.0;
-      for_reasons = leb-true n d t.0;
-      for_queue = leb-true (queue_length r) e u.0;
-      for_work = leb-true (work_length n r) w u.1;
-    }
+long_parts f r n a b c d e w h = record {
+  for_map = grind (arith, nat_tests);
+  for_floors = grind (arith, nat_tests);
+  for_rests = grind (arith, nat_tests);
+  for_reasons = grind (arith, nat_tests);
+  for_queue = grind (arith, nat_tests);
+  for_work = grind (arith, nat_tests);
+}
 
-pub survey_enough : (f r a b c d : ℕ) → f ≤ a → f ≤ b → r ≤ c → work_length f r ≤ d → survey_long f r a b c d ≡ true
-survey_enough f r a b c d h k l p =
-    and_from (leb f a) _ (le-leb f a h) (and_from (leb f b) _ (le-leb f b k) (and_from (leb r c) _ (le-leb r c l) (le-leb (work_length f r) d p)))
+drop_more : {X : Type 0} (k n : ℕ) (xs ys : List X) → k ≤ n → drop k ys ≡ drop k xs → drop n ys ≡ drop n xs
+drop_more k n xs ys l e =
+    let is : n ≡ k + (n - k) = omega arith in
+    ap (λ (i : ℕ). drop i ys) is ∙ sym (drop-drop (n - k) k ys) ∙ ap (drop (n - k)) e ∙ drop-drop (n - k) k xs ∙ ap (λ (i : ℕ). drop i xs) (sym is)
 
-pub contexts_enough : (f r a b c d : ℕ) → f ≤ a → f ≤ b → queue_length r ≤ c → work_length f r ≤ d → contexts_long f r a b c d ≡ true
-contexts_enough f r a b c d h k l p =
-    and_from (leb f a) _ (le-leb f a h) (and_from (leb f b) _ (le-leb f b k) (and_from (leb (queue_length r) c) _ (le-leb (queue_length r) c l) (le-leb (work_length f r) d p)))
-
--- a column of just the length that is written
-pub whole_column : {A : Type 0} (f : ℕ → A) (b : Bool) (n : ℕ) (left xs : List A) → b ≡ true → length xs ≡ n
-    → left ≡ cond b (column f n ++ drop n xs) xs → left ≡ column f n
-whole_column f b n left xs t l e =
-    e ∙ cond-true b _ _ t ∙ ap (λ ys. column f n ++ ys) (drop_all n xs (omega arith)) ∙ append-nil (column f n)
-
--- a part of a column, given back at its new value
-pub part_left : {A : Type 0} (b : Bool) (n k : ℕ) (part new xs : List A) → b ≡ true → k ≡ n → part ≡ new
-    → part ++ drop (k - 0) xs ≡ cond b (new ++ drop n xs) xs
-part_left b n k part new xs t e h =
-    let z : k - 0 ≡ n = omega arith in
-    ap (λ ys. ys ++ drop (k - 0) xs) h ∙ ap (λ (i : ℕ). new ++ drop i xs) z ∙ sym (cond-true b _ _ t)
+-- a column that two calls write, one after the other
+pub scratch_then : {X : Type 0} {b c : Bool} {k n : ℕ} {xs ys ys' zs zs' : List X} → k ≤ n → Scratch b k xs ys → ys' ≡ ys → Scratch c n ys' zs → zs' ≡ zs → Scratch true n xs zs'
+scratch_then {k = k} {n} {xs} {ys} {ys'} {zs} {zs'} l p e q f = record {
+  long = ap length f ∙ q.long ∙ ap length e ∙ p.long;
+  beyond = ap (drop n) f ∙ q.beyond ∙ ap (drop n) e ∙ drop_more k n xs ys l p.beyond;
+  kept = λ r. absurd (both_ways true r refl);
+}
 
 pub column_long : {A : Type 0} (f : ℕ → A) (n : ℕ) (left xs : List A) → left ≡ column f n ++ drop n xs → n ≤ length left
 column_long f n left xs e =
     omega (arith, ap length e, length-append (column f n) (drop n xs), length-map-range_with_len f 0 n)
-
-pub ok_true : {A : Type 0} (r : Result A Refusal) (x : A) → answer r ≡ accepted x → is_ok r ≡ true
-ok_true (Ok y) x e = refl
-ok_true (Err y) x e = let z : ◌≡◌ {A = ℕ} 0 1 = cc in absurd (omega arith)
-
-pub ok_accepted : (r : Result (Unit {0}) Refusal) → is_ok r ≡ true → answer r ≡ accepted tt
-ok_accepted (Ok tt) h = refl
-ok_accepted (Err y) h = absurd (both_ways false refl h)
 
 -- The weighted rules of passed slots name only facts below the fact count.
 module _ {W : Type 0} (m : Ops W) (n : ℕ) where
   standing_named : (xs : List Slot) → passes n xs ≡ true → (r : ℕ) → Standing m (weighted m xs) r
       → ((rule_at m (weighted m xs) r).head < n) × (all_below n (rule_at m (weighted m xs) r).body ≡ true)
   standing_named [] h r s = absurd (both_ways false refl s)
-  standing_named (Empty ∷ xs) h r s = absurd (both_ways false refl h)
-  standing_named (Full a ∷ xs) h zero s = within_parts n a (and_parts (within n a) (passes n xs) h).0 (not-true _ s)
-  standing_named (Full a ∷ xs) h (suc r) s = standing_named xs (and_parts (within n a) (passes n xs) h).1 r s
+  standing_named (None ∷ xs) h r s = absurd (both_ways false refl h)
+  standing_named (Some a ∷ xs) h zero s = within_parts n a (and_parts (within n a) (passes n xs) h).0 (not-true _ s)
+  standing_named (Some a ∷ xs) h (suc r) s = standing_named xs (and_parts (within n a) (passes n xs) h).1 r s
 
   pub heads_named : (xs : List Slot) → passes n xs ≡ true → (r : ℕ) → Standing m (weighted m xs) r → (rule_at m (weighted m xs) r).head < n
   heads_named xs h r s = (standing_named xs h r s).0
@@ -190,3 +160,16 @@ module _ {W : Type 0} {m : Ops W} (laws : Laws m) (xs : List Slot) (facts target
     absent = λ g l never. lightest_floors.absent g l (λ d. never (subst (λ rs. Derivable m rs g) weighs_as d));
     least = λ g l. subst (λ rs. LeastChain m (held m floors) rs (group target) g (get_or rests g m.heaviest)) weighs_as (least_rest g l);
   }
+
+-- What an accepted call promises.
+pub promised : {W : Type 0} {m : Ops W} → Laws m → (xs : List Slot) (facts target : ℕ) (groups : List ℕ) (n : ℕ) (second : List Slot) (floors floors₀ rests rests₀ : List W) (i j k : ℕ)
+    → passes facts xs ≡ true
+    → make_answer xs facts target groups n second (make_long facts (length xs) n (length groups) (length floors₀) (length rests₀) i j k) ≡ accepted tt
+    → floors ≡ floors_left xs groups true m n floors₀ → rests ≡ rests_left xs groups true m n target floors rests₀
+    → Made m (weighted m xs) facts target groups n floors rests
+    × Fit m (by_group m groups floors rests) (by_group m groups rests floors) (weighted m xs) target
+promised {m = m} laws xs facts target groups n second floors floors₀ rests rests₀ i j k within answered floors_are rests_are =
+    let tested = ready xs facts target groups n second _ answered in
+    let long = long_parts facts (length xs) n _ _ _ _ _ _ tested.enough in
+    let all = made laws xs facts target groups n floors floors₀ rests rests₀ within long.for_map (map_grouped facts groups n long.for_map tested.mapped) floors_are rests_are in
+    (all, made_fits laws (weighted m xs) facts target groups n floors rests (heads_named m facts xs within) (bodies_named m facts xs within) tested.low all)

@@ -4,10 +4,9 @@ use lib.ListN.{length-map}
 use Rattle.std.proofs.lemmas.List.{take_at}
 use Rattle.std.proofs.lemmas.Bool.{and_parts, and_from, or_left, both_ways, cases_Bool, cond-true, cond-false, lt-ltb, ltb-true}
 use Rattle.sheet.specs.declared.rule.Rule.{Rule}
-use Rattle.sheet.specs.declared.slot.Slot.{Slot}
-use Rattle.sheet.specs.declared.slot.Slot.TheVariants.{Empty, Full}
+use Rattle.sheet.specs.Slots.{Slot, passes}
+use Rattle.std.specs.Prelude.{None, Some}
 use Rattle.sheet.specs.Rules.{body_of, all_below, within}
-use Rattle.sheet.specs.Slots.{passes}
 use Rattle.sheet.proofs.Within.{within_parts}
 use Rattle.abstraction.specs.Fold.{fold_record, fold_slot, folded}
 use Rattle.abstraction.proofs.Reading.{folded_body}
@@ -31,8 +30,8 @@ module _ (group : ℕ → ℕ) (facts n : ℕ) (grouped : (f : ℕ) → f < fact
 
   pub slots_name : (xs : List Slot) → passes facts xs ≡ true → passes n (map (fold_slot group) xs) ≡ true
   slots_name [] h = refl
-  slots_name (Empty ∷ xs) h = absurd (both_ways false refl h)
-  slots_name (Full r ∷ xs) h =
+  slots_name (None ∷ xs) h = absurd (both_ways false refl h)
+  slots_name (Some r ∷ xs) h =
       let p = and_parts (within facts r) (passes facts xs) h in
       and_from (within n (fold_record group r)) (passes n (map (fold_slot group) xs)) (rule_names r p.0) (slots_name xs p.1)
 

@@ -1,31 +1,39 @@
 -- What folding promises, from what it answers and leaves.
-use Rattle.std.proofs.Common.{◌≡◌, ℕ, zero, suc, ◌+◌, ◌<◌, ◌≤◌, Bool, true, false, cond, ltb, List, [], ◌∷◌, length, get_or, take, sym, refl, ap, ◌∙◌, ⊎_elim, arith, length-take}
+use Rattle.std.proofs.Common.{◌≡◌, ℕ, zero, suc, ◌+◌, ◌<◌, ◌≤◌, Bool, true, false, cond, ltb, List, [], ◌∷◌, length, get_or, take, sym, refl, ap, ◌∙◌, inl, inr, arith, length-take}
 use Rattle.std.proofs.lemmas.List.{get_or-take}
-use Rattle.std.proofs.lemmas.Bool.{cases_Bool, cond-true, cond-false, ltb-true, ltb-false}
-use Rattle.sheet.specs.declared.slot.Slot.{Slot}
-use Rattle.sheet.specs.Refusals.{Answer, accepted, refused, after, Told, a_fact}
-use Rattle.sheet.specs.Slots.{count, free, passes}
-use Rattle.abstraction.specs.Fold.{group_of, folded, map_answer, fold_answer, fold_slots}
+use Rattle.std.proofs.lemmas.Bool.{cases_Bool, cond-true, cond-false, leb-true, leb-false, ltb-false}
+use Rattle.std.proofs.lemmas.Iterator.Adapters.{position_from-zero}
+use Rattle.std.proofs.lemmas.Option.{none-some}
+use Rattle.std.proofs.lemmas.List.Quantifiers.{position-Some}
+use Rattle.std.specs.List.{position_from}
+use Rattle.std.specs.Prelude.{None, Some, Option, nat_le}
+use Rattle.sheet.specs.Slots.{Slot, count, free, passes}
+use Rattle.sheet.specs.Refusals.{Answer, accepted, refused, after, a_fact}
+use Rattle.abstraction.specs.Fold.{group_of, folded, fact_answer, map_answer, fold_answer, fold_slots}
 use Rattle.abstraction.specs.Folds.{Folds}
 use Rattle.abstraction.proofs.Reading.{sheet_begins, sheet_alone}
 use Rattle.abstraction.proofs.Names.{names_groups}
 
--- the groups that were gone through
-pub record Lowest (n k f : ℕ) (xs : List ℕ) : Type 0 where
-  pub at : ℕ
-  pub is : f ≡ k + at
-  pub inside : at < length xs
-  pub outside : n ≤ get_or xs at 0
-  pub lower : (i : ℕ) → i < at → get_or xs i 0 < n
+-- what an answer says of the lowest fact outside
+none_told : (o : Option ℕ) → fact_answer o ≡ accepted tt → o ≡ None
+none_told None e = refl
+none_told (Some f) e = let z : ◌≡◌ {A = ℕ} 0 1 = cc in absurd (omega arith)
 
-here : (b : Bool) (a : Answer (Unit {0})) (v : Told) → cond b a (refused 12 (v ∷ [])) ≡ accepted tt → (b ≡ true) × (a ≡ accepted tt)
-here true a v e = (refl, e)
-here false a v e = let z : ◌≡◌ {A = ℕ} 0 1 = cc in absurd (omega arith)
+some_told : (o : Option ℕ) (f : ℕ) → fact_answer o ≡ refused 12 (a_fact f ∷ []) → o ≡ Some f
+some_told None f e = let z : ◌≡◌ {A = ℕ} 0 1 = cc in absurd (omega arith)
+some_told (Some k) f e = cc
 
-all_grouped : (n k : ℕ) (xs : List ℕ) → map_answer n k xs ≡ accepted tt → (f : ℕ) → f < length xs → get_or xs f 0 < n
-all_grouped n k [] e f h = absurd (omega arith)
-all_grouped n k (g ∷ gs) e zero h = ltb-true g n (here (ltb g n) _ _ e).0
-all_grouped n k (g ∷ gs) e (suc f) h = all_grouped n (suc k) gs (here (ltb g n) _ _ e).1 f (omega arith)
+head_and_rest : (n g : ℕ) (gs : List ℕ) → g < n → ((f : ℕ) → f < length gs → get_or gs f 0 < n) → (f : ℕ) → f < length (g ∷ gs) → get_or (g ∷ gs) f 0 < n
+head_and_rest n g gs l under zero h = l
+head_and_rest n g gs l under (suc f) h = under f (omega arith)
+
+none_outside : (n k : ℕ) (xs : List ℕ) → position_from (λ g. nat_le n g) k xs ≡ None → (f : ℕ) → f < length xs → get_or xs f 0 < n
+none_outside n k [] e f h = absurd (omega arith)
+none_outside n k (g ∷ gs) e f h =
+    elim (cases_Bool (nat_le n g)) [
+      | inl b ↦ absurd (none-some k (sym e ∙ cond-true (nat_le n g) _ _ b))
+      | inr b ↦ head_and_rest n g gs (leb-false n g b) (none_outside n (k + 1) gs (sym (cond-false (nat_le n g) _ _ b) ∙ e)) f h
+    ]
 
 -- the groups of the first facts
 groups_length : (facts : ℕ) (groups : List ℕ) → facts ≤ length groups → length (take facts groups) ≡ facts
@@ -34,27 +42,8 @@ groups_length facts groups l = omega (arith, length-take facts groups)
 pub map_grouped : (facts : ℕ) (groups : List ℕ) (n : ℕ) → facts ≤ length groups → map_answer n 0 (take facts groups) ≡ accepted tt
     → (f : ℕ) → f < facts → group_of groups f < n
 map_grouped facts groups n long e f l =
-    let g = all_grouped n 0 (take facts groups) e f (omega (arith, groups_length facts groups long)) in
+    let g = none_outside n 0 (take facts groups) (none_told _ e) f (omega (arith, groups_length facts groups long)) in
     rw (get_or-take facts groups f 0 l) at g
-
-lower_more : (n g : ℕ) (gs : List ℕ) (at : ℕ) → g < n → ((i : ℕ) → i < at → get_or gs i 0 < n) → (i : ℕ) → i < suc at → get_or (g ∷ gs) i 0 < n
-lower_more n g gs at l h zero b = l
-lower_more n g gs at l h (suc i) b = h i (omega arith)
-
-lowest_more : (n k f g : ℕ) (gs : List ℕ) → g < n → Lowest n (suc k) f gs → Lowest n k f (g ∷ gs)
-lowest_more n k f g gs l w =
-    record { at = suc w.at; is = omega arith; inside = omega arith; outside = w.outside; lower = lower_more n g gs w.at l w.lower }
-
-told_lowest : (n k f : ℕ) (xs : List ℕ) → map_answer n k xs ≡ refused 12 (a_fact f ∷ []) → Lowest n k f xs
-told_lowest n k f [] e = let z : ◌≡◌ {A = ℕ} 0 1 = cc in absurd (omega arith)
-told_lowest n k f (g ∷ gs) e =
-    ⊎_elim {C = Lowest n k f (g ∷ gs)}
-    (λ b. lowest_more n k f g gs (ltb-true g n b) (told_lowest n (suc k) f gs (sym (cond-true (ltb g n) _ _ b) ∙ e)))
-    (λ b.
-    let t : ◌≡◌ {A = Answer (Unit {0})} (refused 12 (a_fact k ∷ [])) (refused 12 (a_fact f ∷ [])) = sym (cond-false (ltb g n) _ _ b) ∙ e in
-    let same : k ≡ f = cc in
-    record { at = 0; is = omega arith; inside = omega arith; outside = ltb-false g n b; lower = λ i l. absurd (omega arith) })
-    (cases_Bool (ltb g n))
 
 -- an answer that is none of the first refusals is that of the map
 pub past : (b : Bool) (k : ℕ) (x a : Answer (Unit {0})) → (refused k [] ≡ a → ⊥) → cond b (refused k []) x ≡ a → (b ≡ false) × (x ≡ a)
@@ -91,13 +80,11 @@ module _ (xs : List Slot) (facts : ℕ) (groups : List ℕ) (n : ℕ) (second : 
       → (f < facts) × (n ≤ group_of groups f) × ((k : ℕ) → k < f → group_of groups k < n)
   fact_told f e =
       let j = judged_map f e in
-      let w = told_lowest n 0 f (take facts groups) j.mapped in
-      let same : w.at ≡ f = omega arith in
-      let l : w.at < facts = omega (arith, groups_length facts groups j.long) in
-      let outside : n ≤ group_of groups w.at = rw (get_or-take facts groups w.at 0 l) at w.outside in
-      let lower : (k : ℕ) → k < f → group_of groups k < n =
-      λ k h. let b : k < facts = omega arith in let g = w.lower k (omega arith) in rw (get_or-take facts groups k 0 b) at g in
-      (omega arith, rw same at outside, lower)
+      let w = position-Some (λ g. nat_le n g) (take facts groups) f 0 (position_from-zero (λ g. nat_le n g) (take facts groups) ∙ some_told _ f j.mapped) in
+      let long = groups_length facts groups j.long in
+      let read = λ (k : ℕ) (h : k < facts). get_or-take facts groups k 0 h in
+      let l : f < facts = omega (arith, w.0, long) in
+      (l, omega (arith, leb-true n _ w.1, read f l), λ k h. omega (arith, leb-false n _ (w.2 k h), read k (omega arith)))
 
   pub folds_by : passes facts xs ≡ true → length xs ≤ 16000 → (out : List Slot) (a : Answer (Unit {0}))
       → a ≡ fold_answer xs facts groups n second → out ≡ fold_slots xs facts groups n second → Folds xs facts groups n second out a

@@ -6,10 +6,9 @@ use Rattle.std.proofs.lemmas.List.{take_at, take-take, take_all, get_or-drop, ap
 use Rattle.std.proofs.lemmas.Bool.{and_parts, both_ways}
 use Rattle.measure.specs.Ops.{Ops}
 use Rattle.sheet.specs.declared.rule.Rule.{Rule as Record}
-use Rattle.sheet.specs.declared.slot.Slot.{Slot}
-use Rattle.sheet.specs.declared.slot.Slot.TheVariants.{Empty, Full}
+use Rattle.sheet.specs.Slots.{Slot, front, sheet, passes}
+use Rattle.std.specs.Prelude.{None, Some}
 use Rattle.sheet.specs.Rules.{Inference, body_of, read, made, within}
-use Rattle.sheet.specs.Slots.{front, sheet, passes}
 use Rattle.derivation.specs.Rules.{Rule}
 use Rattle.derivation.specs.Maps.{fold_rule, fold_rules}
 use Rattle.guide.specs.Weighted.{weigh, weighted}
@@ -44,8 +43,8 @@ module _ (group : ℕ → ℕ) where
 
     weigh_fold : (x : Slot) → weigh m (fold_slot group x) ≡ fold_rule group (weigh m x)
     unfolding weighed_over
-    weigh_fold Empty = refl
-    weigh_fold (Full r) = through (λ s. weigh m (Full s)) r.struck r _ _ (ap (weighed_over r) (folded_body r))
+    weigh_fold None = refl
+    weigh_fold (Some r) = through (λ s. weigh m (Some s)) r.struck r _ _ (ap (weighed_over r) (folded_body r))
 
     pub weighted_fold : (xs : List Slot) → weighted m (map (fold_slot group) xs) ≡ fold_rules group (weighted m xs)
     weighted_fold [] = refl
@@ -60,21 +59,21 @@ module _ (group : ℕ → ℕ) where
   front_fold : (n : ℕ) (xs zs : List Slot) → passes n xs ≡ true
       → front (map (fold_slot group) xs ++ zs) ≡ map (fold_inference group) (front xs) ++ front zs
   front_fold n [] zs h = refl
-  front_fold n (Empty ∷ xs) zs h = absurd (both_ways false refl h)
-  front_fold n (Full r ∷ xs) zs h =
+  front_fold n (None ∷ xs) zs h = absurd (both_ways false refl h)
+  front_fold n (Some r ∷ xs) zs h =
       ap (λ a. a ∷ front (map (fold_slot group) xs ++ zs)) (read_fold r)
       ∙ ap (λ l. fold_inference group (read r) ∷ l) (front_fold n xs zs (and_parts (within n r) (passes n xs) h).1)
 
   front_length : (n : ℕ) (xs : List Slot) → passes n xs ≡ true → length (front xs) ≡ length xs
   front_length n [] h = refl
-  front_length n (Empty ∷ xs) h = absurd (both_ways false refl h)
-  front_length n (Full r ∷ xs) h = ap suc (front_length n xs (and_parts (within n r) (passes n xs) h).1)
+  front_length n (None ∷ xs) h = absurd (both_ways false refl h)
+  front_length n (Some r ∷ xs) h = ap suc (front_length n xs (and_parts (within n r) (passes n xs) h).1)
 
-  front_none : (k : ℕ) (zs : List Slot) → get_or zs 0 Empty ≡ Empty → front (take k zs) ≡ []
+  front_none : (k : ℕ) (zs : List Slot) → get_or zs 0 None ≡ None → front (take k zs) ≡ []
   front_none zero zs h = refl
   front_none (suc k) [] h = refl
-  front_none (suc k) (Empty ∷ zs) h = refl
-  front_none (suc k) (Full r ∷ zs) h = let z : ◌≡◌ {A = ℕ} 0 1 = cc in absurd (omega arith)
+  front_none (suc k) (None ∷ zs) h = refl
+  front_none (suc k) (Some r ∷ zs) h = let z : ◌≡◌ {A = ℕ} 0 1 = cc in absurd (omega arith)
 
   module _ (n : ℕ) (xs second : List Slot) (h : passes n xs ≡ true) (few : length xs ≤ 16000) where
     sheet_parts : sheet (folded group xs second) ≡ map (fold_inference group) (sheet xs) ++ front (take (16000 - length xs) (drop (length xs) second))
@@ -96,7 +95,7 @@ module _ (group : ℕ → ℕ) where
     pub sheet_begins : take (length xs) (sheet (folded group xs second)) ≡ map (fold_inference group) (sheet xs)
     sheet_begins = ap (take (length xs)) sheet_parts ∙ take_at _ _ (length xs) sheet_length
 
-    pub sheet_alone : get_or second (length xs) Empty ≡ Empty → sheet (folded group xs second) ≡ map (fold_inference group) (sheet xs)
+    pub sheet_alone : get_or second (length xs) None ≡ None → sheet (folded group xs second) ≡ map (fold_inference group) (sheet xs)
     sheet_alone e =
-        let at : get_or (drop (length xs) second) 0 Empty ≡ Empty = get_or-drop (length xs) second 0 Empty ∙ ap (λ (i : ℕ). get_or second i Empty) (omega arith) ∙ e in
+        let at : get_or (drop (length xs) second) 0 None ≡ None = get_or-drop (length xs) second 0 None ∙ ap (λ (i : ℕ). get_or second i None) (omega arith) ∙ e in
         sheet_parts ∙ ap (λ l. map (fold_inference group) (sheet xs) ++ l) (front_none (16000 - length xs) (drop (length xs) second) at) ∙ append-nil _

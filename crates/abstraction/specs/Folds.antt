@@ -1,11 +1,9 @@
 -- What folding promises, in the words of rules and facts.
-use Rattle.std.specs.Prelude.{◌≡◌, ℕ, ◌<◌, ◌≤◌, true, false, cond, List, [], ◌∷◌, map, length, take, slice_index_or}
+use Rattle.std.specs.Prelude.{◌≡◌, ℕ, ◌<◌, ◌≤◌, true, false, cond, List, [], ◌∷◌, map, length, take, slice_index_or, None}
 use Rattle.measure.specs.Ops.{Ops}
-use Rattle.sheet.specs.declared.slot.Slot.{Slot}
-use Rattle.sheet.specs.declared.slot.Slot.TheVariants.{Empty}
+use Rattle.sheet.specs.Slots.{Slot, sheet, passes}
 use Rattle.sheet.specs.Refusals.{Answer, accepted, refused, Told, a_fact}
 use Rattle.sheet.specs.Rules.{Inference}
-use Rattle.sheet.specs.Slots.{sheet, passes}
 use Rattle.derivation.specs.Maps.{fold_rules}
 use Rattle.guide.specs.Weighted.{weighted}
 use Rattle.abstraction.specs.Fold.{group_of, folded}
@@ -19,7 +17,7 @@ pub record Folds (xs : List Slot) (facts : ℕ) (groups : List ℕ) (n : ℕ) (b
   -- the second sheet begins with the rules of the passed one over groups, each under its number
   pub rules : a ≡ accepted tt → take (length xs) (sheet after) ≡ map (fold_inference (group_of groups)) (sheet xs)
   -- and has no others where the slot after them was empty
-  pub alone : a ≡ accepted tt → slice_index_or before (length xs) Empty ≡ Empty → sheet after ≡ map (fold_inference (group_of groups)) (sheet xs)
+  pub alone : a ≡ accepted tt → slice_index_or before (length xs) None ≡ None → sheet after ≡ map (fold_inference (group_of groups)) (sheet xs)
   -- each of them is struck or names only groups below n
   pub names : a ≡ accepted tt → passes n (take (length xs) after) ≡ true
   -- each fact has one of the n groups

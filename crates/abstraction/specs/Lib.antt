@@ -2,3 +2,4 @@ pub mod Fold
 pub mod Folds
 pub mod Made
 pub mod Make
+pub mod Same

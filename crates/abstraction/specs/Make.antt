@@ -1,10 +1,9 @@
 -- Making a guide: what the call answers, and what it leaves in its columns.
 use Rattle.std.specs.Prelude.{ℕ, Bool, cond, ◌&&◌, ◌||◌, List, [], ◌++◌, map, length, take, drop, ◌==◌, nat_le, nat_lt}
 use Rattle.measure.specs.Ops.{Ops}
-use Rattle.sheet.specs.declared.slot.Slot.{Slot}
+use Rattle.sheet.specs.Slots.{Slot, free}
 use Rattle.sheet.specs.Passing.{fact_limit}
 use Rattle.sheet.specs.Refusals.{Answer, refused}
-use Rattle.sheet.specs.Slots.{free}
 use Rattle.derivation.specs.Contexts.{context}
 use Rattle.derivation.specs.Search.{weight_of, reason_of}
 use Rattle.guide.specs.Weighted.{weighted}
@@ -30,11 +29,11 @@ make_answer xs facts target groups n second long =
     (cond long (map_answer n 0 (take facts groups)) (refused 11 []))
     (refused 10 [])))
 
-module _ (xs : List Slot) (groups : List ℕ) (done : Bool) where
-  -- The rules over groups.
-  abbrev pub over_groups : List Slot
-  over_groups = map (fold_slot (group_of groups)) xs
+-- The rules over groups.
+abbrev pub over_groups : List Slot → List ℕ → List Slot
+over_groups xs groups = map (fold_slot (group_of groups)) xs
 
+module _ (xs : List Slot) (groups : List ℕ) (done : Bool) where
   -- Where the guide was made, the second sheet holds them, and its slots beyond are as they were.
   abbrev pub second_left : List Slot → List Slot
   second_left second = cond done (folded (group_of groups) xs second) second
@@ -42,12 +41,12 @@ module _ (xs : List Slot) (groups : List ℕ) (done : Bool) where
   module _ {W : Type 0} (m : Ops W) (n : ℕ) where
     -- The weight of each group in a survey of them, and its reason; beyond the groups a column is as it was.
     abbrev pub floors_left : List W → List W
-    floors_left ws = cond done (column (weight_of m (explored m over_groups)) n ++ drop n ws) ws
+    floors_left ws = cond done (column (weight_of m (explored m (over_groups xs groups))) n ++ drop n ws) ws
 
     abbrev pub reasons_left : List ℕ → List ℕ
-    reasons_left rs = cond done (column (reason_of (explored m over_groups)) n ++ drop n rs) rs
+    reasons_left rs = cond done (column (reason_of (explored m (over_groups xs groups))) n ++ drop n rs) rs
 
     -- Likewise its context, with the target's group for the target and these floors.
     abbrev pub rests_left : ℕ → List W → List W → List W
     rests_left target floors ws =
-        cond done (column (context m (held m (take n floors)) (weighted m over_groups) (group_of groups target)) n ++ drop n ws) ws
+        cond done (column (context m (held m (take n floors)) (weighted m (over_groups xs groups)) (group_of groups target)) n ++ drop n ws) ws

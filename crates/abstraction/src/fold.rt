@@ -1,27 +1,35 @@
 // Folding: writes the rules of a sheet into a second sheet, over groups of facts.
 mod rule;
 
-ghost use Rattle.std.specs.Prelude.{◌≡◌, ◌≤◌, length};
-ghost use Rattle.abstraction.specs.Fold.{group_of, folded, map_answer, second_answer, fold_answer, fold_slots};
+ghost use Rattle.std.specs.Prelude.{◌≡◌, ◌<◌, ◌≤◌, length, nat_le, IfSome};
+ghost use Rattle.std.specs.List.{position_from};
+ghost use Rattle.abstraction.specs.Fold.{group_of, folded, map_answer, fold_answer, fold_slots};
 ghost use Rattle.abstraction.specs.Folds.{Folds};
-ghost use Rattle.sheet.specs.Refusals.{answer, accepted};
+ghost use Rattle.sheet.specs.Refusals.{answer};
 
 use rule::fold_slot;
+use sheet::edit::{check_new, check_room};
 use sheet::passed::Passed;
 use sheet::refusal::Refusal;
-use sheet::slot::{Slot, entered, vacant};
+use sheet::slot::Slot;
+
+// The lowest fact whose group is not below the number of groups.
+fn first_outside(entries: &[u16], groups: u16) -> Option<usize>
+    ensures lowest { result ≡ position_from (λ g. nat_le groups g) 0 entries.now }
+    ensures inside { IfSome result (λ fact. fact < length entries.now) }
+{
+    entries.iter().position(|group| *group >= groups)
+}
 
 // A group not below the number of groups is refused; the lowest such fact is told.
 pub(crate) fn check_groups(entries: &[u16], groups: u16) -> Result<(), Refusal>
     requires { length entries.now ≤ 65535 }
     ensures { answer result ≡ map_answer groups 0 entries.now }
 {
-    for (fact, group) in entries.iter().enumerate() {
-        if *group >= groups {
-            return Err(Refusal::Map(fact as u16));
-        }
+    match first_outside(entries, groups) {
+        Some(fact) => Err(Refusal::Map(fact as u16)),
+        None => Ok(()),
     }
-    Ok(())
 }
 
 // Writes each rule, over groups, into the slot of its number.
@@ -34,31 +42,13 @@ pub(crate) fn write(slots: &[Slot], map: &[u16], second: &mut [Slot])
     }
 }
 
-// Refuses a second sheet with so much room: it must have no rule entered, and room for the rules.
-pub(crate) fn check_second(second: &[Slot], room: usize, rules: usize) -> Result<(), Refusal>
-    ensures { answer result ≡ second_answer second.now room rules (accepted tt) }
-{
-    if entered(second) > 0 {
-        return Err(Refusal::Used);
-    }
-    if room < rules {
-        return Err(Refusal::Full);
-    }
-    Ok(())
-}
-
 // What a folding asks for: an unused second sheet with room for the rules, and one of the groups for each fact.
-fn check(
-    slots: &[Slot],
-    facts: u16,
-    map: &[u16],
-    groups: u16,
-    second: &[Slot],
-) -> Result<(), Refusal>
-    ensures { answer result ≡ fold_answer slots.now facts map.now groups second.now }
+fn check(sheet: &Passed, map: &[u16], groups: u16, second: &[Slot]) -> Result<(), Refusal>
+    ensures { answer result ≡ fold_answer sheet.now.slots.now sheet.now.facts map.now groups second.now }
 {
-    check_second(second, vacant(second), slots.len())?;
-    let facts = facts as usize;
+    check_new(second)?;
+    check_room(second, sheet.slots().len())?;
+    let facts = sheet.facts() as usize;
     if map.len() < facts {
         return Err(Refusal::Short);
     }
@@ -72,8 +62,7 @@ pub fn fold(sheet: &Passed, map: &[u16], groups: u16, second: &mut [Slot]) -> Re
     ensures left { second.new ≡ fold_slots sheet.now.slots.now sheet.now.facts map.now groups second.old }
     ensures folds { Folds sheet.now.slots.now sheet.now.facts map.now groups second.old second.new (answer result) }
 {
-    let slots = sheet.slots();
-    check(slots, sheet.facts(), map, groups, second)?;
-    write(slots, map, second);
+    check(sheet, map, groups, second)?;
+    write(sheet.slots(), map, second);
     Ok(())
 }

@@ -41,12 +41,12 @@ pub fn with_given(
         weight: none,
         rule: 0,
     };
-    let columns = Columns {
+    let mut columns = Columns {
         weights: &mut [none; FACTS],
         reasons: &mut [0; FACTS],
         line: &mut [0; FACTS],
         queue: &mut [blank; RULES],
         work: &mut [0; WORK],
     };
-    search(&view, target, guide, columns)
+    search(&view, target, guide, &mut columns)
 }

@@ -1,6 +1,7 @@
 -- The main loop, turn by turn: closed groups have their least rests.
-use Rattle.std.proofs.Common.{◌≡◌, ℕ, ◌-◌, ◌<◌, true, List, [], ◌∷◌, length, get_or, take, set, replicate, sym, refl, ap, ◌∙◌, subst, inl, inr, arith}
-use Rattle.std.specs.List.{ContainsAt as Has}
+use Rattle.std.proofs.Common.{◌≡◌, ℕ, ◌-◌, ◌<◌, Bool, true, List, [], ◌∷◌, length, get_or, take, set, replicate, sym, refl, ap, ◌∙◌, subst, inl, inr, arith}
+use Rattle.std.specs.List.{ContainsAt as Has, AllByRecursion}
+use Rattle.std.specs.List.Sorted.{IsPermutation}
 use Rattle.std.proofs.ByRecursion.{all-has}
 use Rattle.std.proofs.lemmas.List.{get_or-set_same, get_or-set_other}
 use Rattle.std.proofs.lemmas.Bool.{cases_eq}
@@ -15,31 +16,36 @@ use Rattle.derivation.proofs.Queue.{precedes_before}
 use Rattle.derivation.proofs.Weights.{part_right, join_right}
 use Rattle.search.specs.Entries.{held}
 use Rattle.search.proofs.Starting.{get_or_same}
-use Rattle.contexts.specs.Offers.{Done, Settled, Offering, Honest, Queued, Follows}
+use Rattle.contexts.specs.Offers.{Done, Settled, Offering, Honest, Follows}
 use Rattle.contexts.specs.Closing.{Closing}
-use Rattle.contexts.proofs.Offering.{offering_settles, offering_queued, settled_removed, queued_removed}
+use Rattle.contexts.proofs.Offering.{offering_settles, offering_honest, settled_removed, honest_removed}
+
+-- an entry taken out of the queue
+pub taken_out : {X : Type 0} {leb : X → X → Bool} {xs ys : List X} {count left : ℕ} {x : X} → Removed leb xs count ys x × (left ≡ count - 1)
+    → IsPermutation (take count xs) (x ∷ take left ys)
+taken_out {xs = xs} {ys} {count} {x = x} out = subst (λ (k : ℕ). IsPermutation (take count xs) (x ∷ take k ys)) (sym out.1) out.0.contents
 
 module _ {W : Type 0} {m : Ops W} (laws : Laws m) (floor : ℕ → W) (rules : List (Rule W)) (facts target : ℕ) where
   -- no group is closed, and the target is offered nothing
   pub closing_start : (rests : List W) (done : List ℕ) (k n : ℕ) → rests ≡ replicate k m.heaviest → done ≡ replicate n 0 → target < facts
-      → (queue queue' : List (Entry W)) (count : ℕ) → Offering m done target m.nothing queue 0 queue' count
-      → Closing m floor rules facts target rests done queue' count
-  closing_start rests done k n blank none under queue queue' count o =
+      → (w : W) (before entries : List (Entry W)) → w ≡ m.nothing → before ≡ [] → Offering done target w before entries
+      → Closing m floor rules facts target rests done entries
+  closing_start rests done k n blank none under w before entries weightless empty offered =
+      let o : Offering done target m.nothing [] entries = rw (weightless, empty) at offered in
       let never : (f : ℕ) → Done done f → ⊥ = λ f d. let z = ap (λ (l : List ℕ). get_or l f 0) none ∙ get_or_same n f 0 in omega (arith, d, z) in
-      let empty : Queued m floor rules facts target queue 0 = record { inside = omega arith; ordered = λ j d l u. absurd (omega arith); honest = tt } in
       record {
         attained = λ f d. absurd (never f d);
         least = λ f d. absurd (never f d);
         blank = λ f d. ap (λ (l : List W). get_or l f m.heaviest) blank ∙ get_or_same k f m.heaviest;
-        start = offering_settles m done target m.nothing queue 0 queue' count o laws;
+        start = offering_settles m done target m.nothing [] entries o laws;
         onward = λ r i s d. absurd (never _ d);
-        queued = offering_queued m done target m.nothing queue 0 queue' count o floor rules facts target (under, refl, ([], refl, refl)) empty;
+        honest = offering_honest m done target m.nothing [] entries o floor rules facts target (under, refl, ([], refl, refl)) tt;
       }
 
-  module _ (rests : List W) (done : List ℕ) (queue : List (Entry W)) (count : ℕ) (now : Closing m floor rules facts target rests done queue count) where
+  module _ (rests : List W) (done : List ℕ) (entries : List (Entry W)) (now : Closing m floor rules facts target rests done entries) where
     -- a chain from a group that is not closed has an entry in the queue that is no heavier
     frontier : (moves : List Move) (f : ℕ) → Chain m rules moves f target → (Done done f → ⊥)
-        → (e : Entry W) × Has (take count queue) e × (m.leb e.weight (chain_weight m floor rules moves) ≡ true)
+        → (e : Entry W) × Has entries e × (m.leb e.weight (chain_weight m floor rules moves) ≡ true)
     frontier [] f c unclosed =
         elim now.start [
           | inl d ↦ absurd (unclosed (rw c d))
@@ -58,9 +64,9 @@ module _ {W : Type 0} {m : Ops W} (laws : Laws m) (floor : ℕ → W) (rules : L
         ]
 
     -- the queue is empty
-    pub ended : count ≡ 0 → (k : ℕ) → LeastChain m floor rules target k (held m rests k)
+    pub ended : entries ≡ [] → (k : ℕ) → LeastChain m floor rules target k (held m rests k)
     ended z k =
-        let none : (e : Entry W) → Has (take count queue) e → ⊥ = λ e h. let l : h.0 < length (take 0 queue) = subst (λ (n : ℕ). h.0 < length (take n queue)) z h.1 in omega (arith, l) in
+        let none : (e : Entry W) → Has entries e → ⊥ = λ e h. let l = ap length z in omega (arith, h.1, l) in
         elim (cases_eq (get_or done k 0) 1) [
           | inl d ↦ record {
             least = now.least k d;
@@ -76,26 +82,26 @@ module _ {W : Type 0} {m : Ops W} (laws : Laws m) (floor : ℕ → W) (rules : L
               })
         ]
 
-    module _ (queue' : List (Entry W)) (x : Entry W) (out : Removed (entry_leb m) queue count queue' x) where
+    module _ (entries' : List (Entry W)) (x : Entry W) (out : IsPermutation entries (x ∷ entries')) where
       taken : Honest m floor rules facts target x
-      taken = (queued_removed m queue count queue' x out floor rules facts target now.queued).0
+      taken = (honest_removed m entries entries' x out floor rules facts target now.honest).0
 
       pub group_under : x.rule < facts
       group_under = taken.0
 
       -- its group is closed already
-      pub dropped : Done done x.rule → Closing m floor rules facts target rests done queue' (count - 1)
+      pub dropped : Done done x.rule → Closing m floor rules facts target rests done entries'
       dropped d = record {
         attained = now.attained;
         least = now.least;
         blank = now.blank;
-        start = settled_removed m queue count queue' x out done done d (λ b h. h) _ _ now.start;
-        onward = λ r i s h l. settled_removed m queue count queue' x out done done d (λ b h. h) _ _ (now.onward r i s h l);
-        queued = (queued_removed m queue count queue' x out floor rules facts target now.queued).1;
+        start = settled_removed m entries entries' x out done done d (λ b h. h) _ _ now.start;
+        onward = λ r i s h l. settled_removed m entries entries' x out done done d (λ b h. h) _ _ (now.onward r i s h l);
+        honest = (honest_removed m entries entries' x out floor rules facts target now.honest).1;
       }
 
       -- it closes its group at the least weight of a chain
-      module _ (in_rests : x.rule < length rests) (in_done : x.rule < length done) (new : Done done x.rule → ⊥) where
+      module _ (least : AllByRecursion (λ y. entry_leb m x y ≡ true) entries) (in_rests : x.rule < length rests) (in_done : x.rule < length done) (new : Done done x.rule → ⊥) where
         abbrev rests' : List W
         rests' = set rests x.rule x.weight
 
@@ -105,8 +111,8 @@ module _ {W : Type 0} {m : Ops W} (laws : Laws m) (floor : ℕ → W) (rules : L
         lightest : (moves : List Move) → Chain m rules moves x.rule target → m.leb x.weight (chain_weight m floor rules moves) ≡ true
         lightest moves c =
             let f = frontier moves x.rule c new in
-            let first = all-has (λ y. entry_leb m x y ≡ true) (take count queue) f.0 (out.least now.queued.ordered) f.1 in
-            let honest = all-has (Honest m floor rules facts target) (take count queue) f.0 now.queued.honest f.1 in
+            let first = all-has (λ y. entry_leb m x y ≡ true) entries f.0 least f.1 in
+            let honest = all-has (Honest m floor rules facts target) entries f.0 now.honest f.1 in
             let p = (precedes_before laws x f.0 first).by_priority in
             let q : m.leb x.weight f.0.weight ≡ true = rw (taken.1, honest.1) at p in
             laws.trans _ _ _ q f.2
@@ -129,11 +135,11 @@ module _ {W : Type 0} {m : Ops W} (laws : Laws m) (floor : ℕ → W) (rules : L
           | inr e ↦ get_or-set_other done x.rule f 1 0 e ∙ d
         ]
 
-        pub closed : (P : ℕ → ℕ → Type 0) (queue'' : List (Entry W)) (count'' : ℕ)
+        closed : (P : ℕ → ℕ → Type 0) (entries'' : List (Entry W))
             → ((r i : ℕ) → Standing m rules r → (rule_at m rules r).head ≡ x.rule → P r i)
-            → Follows m floor rules facts done' x.rule x.weight P queue' (count - 1) queue'' count''
-            → Closing m floor rules facts target rests' done' queue'' count''
-        closed P queue'' count'' all follows = record {
+            → Follows m floor rules facts done' x.rule x.weight P entries' entries''
+            → Closing m floor rules facts target rests' done' entries''
+        closed P entries'' all follows = record {
           attained = λ f d. elim (cases_eq f x.rule) [
             | inl e ↦ rw (e, here) taken.2
             | inr e ↦ rw (there f e) (now.attained f (before f e d))
@@ -151,11 +157,18 @@ module _ {W : Type 0} {m : Ops W} (laws : Laws m) (floor : ℕ → W) (rules : L
             | inl e ↦ rw (e, here) (follows.places r i (all r i s e) l)
             | inr e ↦ rw (there _ e) (later _ _ (now.onward r i s (before _ e d) l))
           ];
-          queued = follows.queued target taken.2 (queued_removed m queue count queue' x out floor rules facts target now.queued).1;
+          honest = follows.honest target taken.2 (honest_removed m entries entries' x out floor rules facts target now.honest).1;
         }
           where
-            later : (b : ℕ) (w : W) → Settled m done queue count b w → Settled m done' queue'' count'' b w
-            later b w s = elim (settled_removed m queue count queue' x out done done' closed_here still b w s) [
+            later : (b : ℕ) (w : W) → Settled m done entries b w → Settled m done' entries'' b w
+            later b w s = elim (settled_removed m entries entries' x out done done' closed_here still b w s) [
               | inl d ↦ inl d
               | inr o ↦ inr (follows.grows b w o)
             ]
+
+        -- the same for columns that are written by a call
+        pub closed_by : (left : List W) (marks : List ℕ) → left ≡ rests' → marks ≡ done' → (P : ℕ → ℕ → Type 0) (entries'' : List (Entry W))
+            → ((r i : ℕ) → Standing m rules r → (rule_at m rules r).head ≡ x.rule → P r i)
+            → Follows m floor rules facts marks x.rule x.weight P entries' entries''
+            → Closing m floor rules facts target left marks entries''
+        closed_by left marks e f P entries'' all follows = rw (e, f) (closed P entries'' all (rw f at follows))

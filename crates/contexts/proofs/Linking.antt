@@ -1,10 +1,11 @@
 -- Rules linked by their heads, and how many of them are left.
-use Rattle.std.proofs.Common.{◌≡◌, ℕ, zero, suc, ◌+◌, ◌-◌, ◌<◌, ◌≤◌, Bool, true, false, cond, not, ◌&&◌, eqb, List, length, get_or, set, sym, refl, ap, ◌∙◌, subst, inl, inr, add-one, arith, length-set}
+use Rattle.std.proofs.Common.{◌≡◌, ℕ, zero, suc, ◌+◌, ◌<◌, ◌≤◌, Bool, true, false, cond, not, ◌&&◌, eqb, List, length, get_or, set, sym, refl, ap, ◌∙◌, subst, inl, inr, add-one, arith, length-set}
 use Rattle.std.proofs.lemmas.List.{get_or-set_same, get_or-set_other, get_or_past}
 use Rattle.std.proofs.lemmas.Bool.{cases_eq, cases_Bool, cases_lt, both_ways, eqb-true, eq-eqb, ne_eqb, and_parts, not-true}
-use Rattle.sheet.specs.declared.slot.Slot.{Slot}
-use Rattle.sheet.specs.declared.slot.Slot.TheVariants.{Empty}
-use Rattle.sheet.specs.Slots.{rule_in, rule_at}
+use Rattle.sheet.specs.Slots.{Slot, rule_in, rule_at, passes}
+use Rattle.std.specs.Prelude.{None}
+use Rattle.sheet.specs.declared.rule.Rule.{Rule}
+use Rattle.sheet.proofs.Within.{passes_at, within_parts}
 use Rattle.measure.specs.Ops.{Ops}
 use Rattle.derivation.specs.Rules as theory
 use Rattle.derivation.specs.Theorems.{count_below}
@@ -36,8 +37,15 @@ pub concludes_under : (xs : List Slot) (g r : ℕ) → concludes xs g r ≡ true
 concludes_under xs g r h =
     elim (cases_lt r (length xs)) [
       | inl l ↦ l
-      | inr l ↦ absurd (both_ways _ (concludes_parts xs g r h).0 (ap (λ z. (rule_in z).struck) (get_or_past xs r Empty l)))
+      | inr l ↦ absurd (both_ways _ (concludes_parts xs g r h).0 (ap (λ z. (rule_in z).struck) (get_or_past xs r None l)))
     ]
+
+-- a standing rule of a passed sheet concludes one of its facts
+pub head_under : {n : ℕ} {xs ys : List Slot} (k : ℕ) (r : Rule) → passes n xs ≡ true → ys ≡ xs → k < length ys → r ≡ rule_at ys k → r.struck ≡ false → r.head < n
+head_under {n} {xs} k r h e l is s =
+    let e' : r ≡ rule_at xs k = is ∙ ap (λ z. rule_at z k) e in
+    let under = within_parts n (rule_at xs k) (passes_at n xs k h (omega (arith, l, ap length e))).1 (ap (λ (z : Rule). z.struck) (sym e') ∙ s) in
+    omega (arith, under.0, ap (λ (z : Rule). z.head) e')
 
 last_more : (xs : List Slot) (g k : ℕ) (b : Bool) → concludes xs g k ≡ b → last_rule xs g (k + 1) ≡ cond b (k + 1) (last_rule xs g k)
 last_more xs g k b e = rw (add-one, e)
@@ -113,18 +121,15 @@ module _ (xs : List Slot) (g : ℕ) where
         | inr h ↦ absurd (let z : last_rule xs g n ≡ suc n = rw h at e in omega (arith, z, last_bound n))
       ]
 
-  -- the rule below a link
-  module _ (link : ℕ) (some : 0 < link) (fixed : last_rule xs g link ≡ link) where
-    pub link_concludes : concludes xs g (link - 1) ≡ true
-    link_concludes =
-        let e : link ≡ suc (link - 1) = omega arith in
-        last_concludes (link - 1) (subst (λ (k : ℕ). last_rule xs g k ≡ k) e fixed)
+  -- the rule of a link
+  module _ (number link : ℕ) (is : suc number ≡ link) (fixed : last_rule xs g link ≡ link) where
+    pub link_concludes : concludes xs g number ≡ true
+    link_concludes = last_concludes number (subst (λ (k : ℕ). last_rule xs g k ≡ k) (sym is) fixed)
 
-    pub link_concluding : concluding xs g link ≡ concluding xs g (link - 1) + 1
+    pub link_concluding : concluding xs g link ≡ concluding xs g number + 1
     link_concluding =
-        let e : suc (link - 1) ≡ link = omega arith in
-        let one : ◌≡◌ {A = ℕ} (cond (concludes xs g (link - 1)) 1 0) 1 = rw link_concludes in
-        ap (concluding xs g) (sym e) ∙ ap (λ (k : ℕ). concluding xs g (link - 1) + k) one
+        let one : ◌≡◌ {A = ℕ} (cond (concludes xs g number) 1 0) 1 = rw link_concludes in
+        ap (concluding xs g) (sym is) ∙ ap (λ (k : ℕ). concluding xs g number + k) one
 
 pub count_bound : (p : ℕ → Bool) (n : ℕ) → count_below p n ≤ n
 count_bound p zero = omega arith
@@ -151,7 +156,10 @@ module _ (xs : List Slot) (done : List ℕ) (g : ℕ) (under : g < length done) 
         | inr e ↦ rw (get_or-set_other done g h 1 0 e, ne_eqb h g e) (omega arith)
       ]
 
-  pub open_fewer : (n : ℕ) → open_rules xs (set done g 1) n + concluding xs g n ≡ open_rules xs done n
+  fewer : (n : ℕ) → open_rules xs (set done g 1) n + concluding xs g n ≡ open_rules xs done n
   unfolding open_rules concludes
-  open_fewer zero = refl
-  open_fewer (suc n) = omega (arith, open_fewer n, one_rule (rule_at xs n).struck (rule_at xs n).head)
+  fewer zero = refl
+  fewer (suc n) = omega (arith, fewer n, one_rule (rule_at xs n).struck (rule_at xs n).head)
+
+  pub open_fewer : (done' : List ℕ) → done' ≡ set done g 1 → (n : ℕ) → open_rules xs done' n + concluding xs g n ≡ open_rules xs done n
+  open_fewer done' e n = rw e (fewer n)

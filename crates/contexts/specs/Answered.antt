@@ -1,7 +1,7 @@
 -- What the call answers, and what it leaves in its columns.
 use Rattle.std.specs.Prelude.{◌≡◌, ℕ, ◌+◌, ◌*◌, ◌<◌, Bool, cond, ◌&&◌, List, [], ◌++◌, get_or, drop, nat_le, nat_lt, slice_index_or}
 use Rattle.measure.specs.Ops.{Ops}
-use Rattle.sheet.specs.declared.slot.Slot.{Slot}
+use Rattle.sheet.specs.Slots.{Slot}
 use Rattle.sheet.specs.Refusals.{Answer, accepted, refused}
 use Rattle.derivation.specs.Contexts.{context}
 use Rattle.derivation.specs.Maps.{LeastChain}

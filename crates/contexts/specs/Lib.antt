@@ -2,3 +2,4 @@ pub mod Links
 pub mod Offers
 pub mod Closing
 pub mod Answered
+pub mod Same

@@ -1,7 +1,6 @@
 -- The standing rules linked by their heads.
 use Rattle.std.specs.Prelude.{◌≡◌, ℕ, zero, suc, ◌<◌, Bool, true, cond, not, ◌&&◌, List, length, ◌==◌, slice_index}
-use Rattle.sheet.specs.declared.slot.Slot.{Slot}
-use Rattle.sheet.specs.Slots.{rule_at}
+use Rattle.sheet.specs.Slots.{Slot, rule_at}
 use Rattle.derivation.specs.Theorems.{count_below}
 
 -- Whether a rule stands and concludes the group g.

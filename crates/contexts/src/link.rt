@@ -1,19 +1,35 @@
-// Before contexts are computed: the standing rules, linked by their heads. A link is 0 at the end, or a rule's number + 1.
-ghost use Rattle.std.specs.Prelude.{◌≡◌, ◌≤◌, true, length};
+// Before contexts are computed: the standing rules, linked by their heads.
+// The columns are lent as numbers: a link is 0 at the end, or a rule's number + 1.
+ghost use Rattle.std.specs.Prelude.{◌≡◌, ◌≤◌, length};
 ghost use Rattle.contexts.specs.Links.{Linked};
-ghost use Rattle.sheet.specs.Slots.{passes};
 
-use sheet::slot::Slot;
+use sheet::passed::Passed;
+use sheet::slot::rule_in;
 
-// Links to each group the standing rules that conclude it.
-pub(crate) fn link(slots: &[Slot], first: &mut [u16], next: &mut [u16])
-    requires known { (length slots.now ≤ 16000) × (length slots.now ≤ length next.old) }
-    requires within { passes (length first.old) slots.now ≡ true }
-    ensures { Linked slots.now first.new next.new (length slots.now) }
+// A passed sheet with its standing rules linked by their heads, and the floors of its facts.
+#[derive(Drop)]
+pub(crate) struct Links<'a, W> {
+    pub sheet: Passed<'a>,
+    pub floors: &'a [W],
+    // the last rule that concludes each fact
+    pub first: &'a [u16],
+    // for each rule, the last one before it that concludes the same fact
+    pub next: &'a [u16],
+    ghost floors_long: { sheet.facts ≤ length floors.now },
+    ghost first_long: { length first.now ≡ sheet.facts },
+    ghost next_long: { length sheet.slots.now ≤ length next.now },
+    ghost linked: { Linked sheet.slots.now first.now next.now (length sheet.slots.now) },
+}
+
+// Links to each fact the standing rules that conclude it.
+pub(crate) fn link(sheet: &Passed, first: &mut [u16], next: &mut [u16])
+    requires first_long { length first.old ≡ sheet.now.facts }
+    requires next_long { length sheet.now.slots.now ≤ length next.old }
+    ensures { Linked sheet.now.slots.now first.new next.new (length sheet.now.slots.now) }
 {
     first.fill(0);
-    for (number, slot) in slots.iter().enumerate() {
-        let rule = slot.rule();
+    for (number, slot) in sheet.slots().iter().enumerate() {
+        let rule = rule_in(slot);
         if rule.struck {
             continue;
         }

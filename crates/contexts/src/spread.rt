@@ -1,42 +1,34 @@
 // After a group is closed: the rules that conclude it.
-ghost use Rattle.std.specs.Prelude.{◌≡◌, ◌+◌, ◌*◌, ◌<◌, ◌≤◌, true, length};
-ghost use Rattle.contexts.specs.Links.{Linked, concludes, concluding};
+ghost use Rattle.std.specs.Prelude.{◌≡◌, ◌+◌, ◌*◌, ◌<◌, ◌≤◌, true, length, take};
+ghost use Rattle.contexts.specs.Links.{concludes, concluding};
 ghost use Rattle.contexts.specs.Offers.{Follows};
 ghost use Rattle.guide.specs.Weighted.{weighted};
 ghost use Rattle.search.specs.Entries.{held};
-ghost use Rattle.sheet.specs.Slots.{passes};
 
+use crate::link::Links;
 use crate::offer::offer_places;
 use measure::Measure;
 use queue::entry::Entry;
-use sheet::slot::Slot;
+use queue::lent::Queue;
 
 // Offers chains to the places of each standing rule that concludes the group, where the chain from the group weighs so much.
-// Answers how many entries there are.
 pub(crate) fn spread<W: Measure>(
-    slots: &[Slot],
+    links: &Links<W>,
     group: u16,
     weight: W,
-    floors: &[W],
-    first: &[u16],
-    next: &[u16],
     done: &[u16],
-    queue: &mut [Entry<W>],
-    count: usize,
-) -> usize
-    requires known { (group < length first.now) × (length slots.now ≤ length next.now) × (length done.now ≤ length floors.now) }
-    requires within { passes (length done.now) slots.now ≡ true }
-    requires linked { Linked slots.now first.now next.now (length slots.now) }
-    requires room { count + 4 * concluding slots.now group (length slots.now) ≤ length queue.old }
-    ensures few { result ≤ count + 4 * concluding slots.now group (length slots.now) }
-    ensures follows { Follows W.Measure.ops (held W.Measure.ops floors.now) (weighted W.Measure.ops slots.now) (length done.now) done.now group weight (λ k _. concludes slots.now group k ≡ true) queue.old count queue.new result }
+    queue: &mut Queue<Entry<W>>,
+)
+    requires known { (group < links.now.sheet.facts) × (length done.now ≡ links.now.sheet.facts) }
+    requires room { queue.old.count + 4 * concluding links.now.sheet.slots.now group (length links.now.sheet.slots.now) ≤ length queue.old.places.now }
+    ensures same { queue.new.places.ghost_name ≡ queue.old.places.ghost_name }
+    ensures long { length queue.new.places.now ≡ length queue.old.places.now }
+    ensures few { queue.new.count ≤ queue.old.count + 4 * concluding links.now.sheet.slots.now group (length links.now.sheet.slots.now) }
+    ensures follows { Follows W.Measure.ops (held W.Measure.ops links.now.floors.now) (weighted W.Measure.ops links.now.sheet.slots.now) links.now.sheet.facts done.now group weight (λ k _. concludes links.now.sheet.slots.now group k ≡ true) (take queue.old.count queue.old.places.now) (take queue.new.count queue.new.places.now) }
 {
-    let mut link = first[group as usize];
-    let mut count = count;
-    while link > 0 {
-        let number = link as usize - 1;
-        count = offer_places(slots, number, weight, floors, done, queue, count);
-        link = next[number];
+    let mut link = links.first[group as usize];
+    while let Some(number) = link.checked_sub(1) {
+        offer_places(links, number, weight, done, queue);
+        link = links.next[number as usize];
     }
-    count
 }

@@ -77,10 +77,6 @@ module _ {W : Type 0} {m : Ops W} (laws : Laws m) (rules : List (Rule W)) (rest 
   Sought n None = (r : ℕ) → r < n → queued m rules s r ≡ false
   Sought n (Some e) = First n e
 
-  entry_rule : (r : ℕ) → (entry m rules rest s.closed r).rule ≡ r
-  unfolding entry
-  entry_rule r = refl
-
   none_more : (n : ℕ) → queued m rules s n ≡ false → Sought n None → Sought (suc n) None
   none_more n no_n none r h = elim (cases_eq r n) [ inl e ↦ rw e no_n | inr e ↦ none r (omega arith) ]
 

@@ -9,85 +9,61 @@ ghost use Rattle.derivation.specs.Examples.{Table};
 use measure::Measure;
 
 // The floors of a guide that fits are no heavier than any derivation.
-pub fn floors_below<W: Measure>() -> u8
+pub fn floors_below<W: Measure>()
     ensures { FloorsBelow W.Measure.ops }
-{
-    0
-}
+{}
 
 // A search under a guide that fits answers the least weight, and its line derives the target at it.
-pub fn optimal<W: Measure>() -> u8
+pub fn optimal<W: Measure>()
     ensures { Optimal W.Measure.ops }
-{
-    0
-}
+{}
 
 // Which facts a search closes, at which weights, and how many.
-pub fn exact<W: Measure>() -> u8
+pub fn exact<W: Measure>()
     ensures { Exact W.Measure.ops }
-{
-    0
-}
+{}
 
 // Two guides that fit give one answer.
-pub fn agree<W: Measure>() -> u8
+pub fn agree<W: Measure>()
     ensures { Agree W.Measure.ops }
-{
-    0
-}
+{}
 
 // A survey closes exactly the derivable facts, each at its least weight.
-pub fn surveyed<W: Measure>() -> u8
+pub fn surveyed<W: Measure>()
     ensures { Surveyed W.Measure.ops }
-{
-    0
-}
+{}
 
 // The guide that answers nothing fits.
-pub fn blank_fits<W: Measure>() -> u8
+pub fn blank_fits<W: Measure>()
     ensures { BlankFits W.Measure.ops }
-{
-    0
-}
+{}
 
 // The heavier of two guides that fit fits.
-pub fn heavier_fits<W: Measure>() -> u8
+pub fn heavier_fits<W: Measure>()
     ensures { HeavierFits W.Measure.ops }
-{
-    0
-}
+{}
 
 // Fit depends only on the facts that standing rules name, and on the target.
-pub fn fit_below<W: Measure>() -> u8
+pub fn fit_below<W: Measure>()
     ensures { FitBelow W.Measure.ops }
-{
-    0
-}
+{}
 
 // The check of fit decides it, and tells what fails first.
-pub fn decided<W: Measure>() -> u8
+pub fn decided<W: Measure>()
     ensures { Decided W.Measure.ops }
-{
-    0
-}
+{}
 
 // Contexts give each fact the least weight of a chain of moves to the target.
-pub fn contexts_least<W: Measure>() -> u8
+pub fn contexts_least<W: Measure>()
     ensures { ContextsLeast W.Measure.ops }
-{
-    0
-}
+{}
 
 // A guide made from any map of the facts fits.
-pub fn map_fits<W: Measure>() -> u8
+pub fn map_fits<W: Measure>()
     ensures { MapFits W.Measure.ops }
-{
-    0
-}
+{}
 
 // What the definitions give on worked examples.
-pub fn worked_examples() -> u8
+pub fn worked_examples()
     ensures { Table }
-{
-    0
-}
+{}

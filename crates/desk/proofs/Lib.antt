@@ -1,3 +1,2 @@
-pub mod Cutting
 pub mod Digits
-pub mod Reading
+pub mod Starting

@@ -1,12 +1,13 @@
 // The edits of a sheet.
 ghost use Rattle.desk.specs.Edits.{Makes};
 
-use crate::failure::Failure;
-use crate::fault::Field;
-use crate::words::{check_end, cost_at, short_at};
+use crate::fault::{Fault, Field};
+use crate::words::Words;
+use memory::failure::Failure;
 use replay::call::Call;
-use std::alloc::{AllocError, Global};
+use std::alloc::Global;
 
+// It owns its body, which a call of a list only borrows.
 #[derive(Drop)]
 pub enum Edit {
     Enter {
@@ -23,41 +24,26 @@ pub enum Edit {
     },
 }
 
-// The numbers of the words from an index up to another.
-pub(crate) fn shorts(
-    heap: Global,
-    words: &[&[u8]],
-    start: usize,
-    end: usize,
-    field: Field,
-) -> Result<Vec<u16>, Failure> {
-    let mut numbers = Vec::new(heap);
-    for index in start..end {
-        numbers.push(short_at(words, index, field)?)?;
-    }
-    Ok(numbers)
-}
-
-// enter HEAD COST BODY…
-pub(crate) fn parse_enter(heap: Global, words: &[&[u8]]) -> Result<Edit, Failure> {
-    let head = short_at(words, 1, Field::Head)?;
-    let cost = cost_at(words, 2)?;
-    let body = shorts(heap, words, 3, words.len(), Field::BodyFact)?;
+// HEAD COST BODY…
+pub(crate) fn parse_enter(heap: Global, words: &mut Words) -> Result<Edit, Failure<Fault>> {
+    let head = words.short(Field::Head)?;
+    let cost = words.cost()?;
+    let body = words.shorts(heap, words.list.len(), Field::BodyFact)?;
     Ok(Edit::Enter { head, body, cost })
 }
 
-// reprice RULE COST
-pub(crate) fn parse_reprice(words: &[&[u8]]) -> Result<Edit, Failure> {
-    let number = short_at(words, 1, Field::Rule)?;
-    let cost = cost_at(words, 2)?;
-    check_end(words, 3)?;
+// RULE COST
+pub(crate) fn parse_reprice(words: &mut Words) -> Result<Edit, Fault> {
+    let number = words.short(Field::Rule)?;
+    let cost = words.cost()?;
+    words.check_end()?;
     Ok(Edit::Reprice { number, cost })
 }
 
-// strike RULE
-pub(crate) fn parse_strike(words: &[&[u8]]) -> Result<Edit, Failure> {
-    let number = short_at(words, 1, Field::Rule)?;
-    check_end(words, 2)?;
+// RULE
+pub(crate) fn parse_strike(words: &mut Words) -> Result<Edit, Fault> {
+    let number = words.short(Field::Rule)?;
+    words.check_end()?;
     Ok(Edit::Strike { number })
 }
 

@@ -1,4 +1,8 @@
 // What is wrong with a line.
+ghost use Rattle.std.specs.Prelude.{◌≡◌};
+ghost use Rattle.memory.specs.declared.failure.Failure.TheVariants.{Told};
+
+use memory::failure::Failure;
 use std::fmt;
 
 // The words that a call consists of.
@@ -32,6 +36,14 @@ pub enum Kind {
 pub struct Fault {
     pub index: usize,
     pub kind: Kind,
+}
+
+impl From<Fault> for Failure<Fault> {
+    ghost from_gives = { λ e r. r ≡ Told e };
+
+    fn from(fault: Fault) -> Failure<Fault> {
+        Failure::Told(fault)
+    }
 }
 
 impl fmt::Display for Field {

@@ -3,7 +3,6 @@
 
 mod desk;
 mod edit;
-mod failure;
 mod fault;
 mod input;
 mod line;
@@ -12,41 +11,33 @@ mod number;
 mod pieces;
 mod query;
 mod reply;
-mod room;
 mod runs;
 mod words;
 
 use desk::Desk;
-use failure::Failure;
-use input::{INPUT_LIMIT, read_input};
+use input::{INPUT_LIMIT, is_allowed};
+use memory::input::read_up_to;
 use pieces::split;
+use std::io;
 use std::process::ExitCode;
 
-fn run(rt: &HostRuntime) -> Result<(), Failure> {
-    let bytes = read_input(rt)?;
+// Answers the input, or says that it is too long.
+fn run(rt: &HostRuntime) -> io::Result<ExitCode> {
+    let bytes = read_up_to(rt.alloc(), rt.stdin(), INPUT_LIMIT)?;
+    if !is_allowed(bytes.len()) {
+        println!(rt; "the input is longer than {INPUT_LIMIT} bytes")?;
+        return Ok(ExitCode::FAILURE);
+    }
     let lines = split(rt.alloc(), &bytes, b'\n')?;
     let mut desk = Desk::new(rt.alloc());
     for (i, line) in lines.iter().enumerate() {
         desk.take(rt, i + 1, line)?;
     }
-    desk.finish(rt)
+    desk.finish(rt)?;
+    Ok(ExitCode::SUCCESS)
 }
 
-// Answers the input, or says that it is too long.
-fn answer(rt: &HostRuntime) -> Result<(), Failure> {
-    match run(rt) {
-        Err(Failure::Long) => {
-            println!(rt; "the input is longer than {INPUT_LIMIT} bytes")?;
-            Err(Failure::Long)
-        }
-        done => done,
-    }
-}
-
-// A failure ends the program with status 1.
+// An error ends the program with status 1.
 fn main(rt: HostRuntime) -> ExitCode {
-    match answer(&rt) {
-        Ok(()) => ExitCode::SUCCESS,
-        Err(_) => ExitCode::FAILURE,
-    }
+    run(&rt).unwrap_or(ExitCode::FAILURE)
 }

@@ -1,6 +1,6 @@
 // Cutting a text into lines, and a line into words.
 ghost use Rattle.std.specs.Prelude.{◌≡◌, map, IfOk};
-ghost use Rattle.desk.specs.Pieces.{pieces as pieces_of, filled, words_of};
+ghost use Rattle.desk.specs.Pieces.{pieces as pieces_of, words_of};
 
 use std::alloc::{AllocError, Global};
 
@@ -8,28 +8,14 @@ use std::alloc::{AllocError, Global};
 pub fn split<'a>(heap: Global, text: &'a [u8], separator: u8) -> Result<Vec<&'a [u8]>, AllocError>
     ensures { IfOk result (λ v. map (λ x. x.now) v.items ≡ pieces_of separator text.now) }
 {
-    let mut pieces = Vec::new(heap);
-    let mut start = 0;
-    for (i, byte) in text.iter().enumerate() {
-        if *byte == separator {
-            pieces.push(&text[start..i])?;
-            start = i + 1;
-        }
-    }
-    pieces.push(&text[start..])?;
-    Ok(pieces)
+    text.split(|byte| *byte == separator).collect(heap)
 }
 
 // The words of a line, which are parted by spaces.
 pub fn split_words<'a>(heap: Global, line: &'a [u8]) -> Result<Vec<&'a [u8]>, AllocError>
     ensures { IfOk result (λ v. map (λ x. x.now) v.items ≡ words_of line.now) }
 {
-    let mut words = Vec::new(heap);
-    let pieces = split(heap, line, b' ')?;
-    for piece in pieces.iter() {
-        if !piece.is_empty() {
-            words.push(*piece)?;
-        }
-    }
-    Ok(words)
+    line.split(|byte| *byte == b' ')
+        .filter(|piece| !piece.is_empty())
+        .collect(heap)
 }

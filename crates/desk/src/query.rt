@@ -1,8 +1,7 @@
 // Searches as they are asked for.
-use crate::edit::shorts;
-use crate::failure::Failure;
 use crate::fault::{Fault, Field, Kind};
-use crate::words::{short_at, word_at};
+use crate::words::Words;
+use memory::failure::Failure;
 use std::alloc::Global;
 
 // The measure of a search.
@@ -35,68 +34,59 @@ pub struct Query {
     pub guidance: Guidance,
 }
 
-fn parse_scale(words: &[&[u8]]) -> Result<Scale, Fault> {
-    match word_at(words, 1, Field::Measure)? {
+fn parse_scale(words: &mut Words) -> Result<Scale, Fault> {
+    let index = words.index;
+    match words.word(Field::Measure)? {
         b"total" => Ok(Scale::Total),
         b"hardest" => Ok(Scale::Hardest),
         b"total-steps" => Ok(Scale::TotalSteps),
-        _ => Err(Fault {
-            index: 1,
-            kind: Kind::Unknown(Field::Measure),
-        }),
-    }
-}
-
-// Whether a word begins a guide.
-fn is_map(word: &[u8]) -> bool {
-    match word {
-        b"map" => true,
-        _ => false,
-    }
-}
-
-// The first index from a start on at which a guide begins, or the end.
-fn next_map(words: &[&[u8]], start: usize) -> usize {
-    for index in start..words.len() {
-        if is_map(words[index]) {
-            return index;
+        _ => {
+            let kind = Kind::Unknown(Field::Measure);
+            Err(Fault { index, kind })
         }
     }
-    words.len()
 }
 
-// map GROUPS G0 G1 …, from an index up to another
-fn parse_map(heap: Global, words: &[&[u8]], start: usize, end: usize) -> Result<Map, Failure> {
-    if !is_map(word_at(words, start, Field::Guide)?) {
+// The index of the first word after the next that begins a guide, or the end.
+fn next_map(words: &Words) -> usize {
+    let indexed = words.list.iter().enumerate();
+    let mut later = indexed.skip(words.index).skip(1);
+    let found = later.find(|(_, word)| **word == b"map".as_slice());
+    found.map_or(words.list.len(), |(index, _)| index)
+}
+
+// map GROUPS G0 G1 …, up to an end
+fn parse_map(heap: Global, words: &mut Words, end: usize) -> Result<Map, Failure<Fault>> {
+    let index = words.index;
+    if words.word(Field::Guide)? != b"map".as_slice() {
         let kind = Kind::Unknown(Field::Guide);
-        return Err(Failure::Bad(Fault { index: start, kind }));
+        return Err(Failure::Told(Fault { index, kind }));
     }
-    let first = start.saturating_add(1);
-    let groups = short_at(words, first, Field::GroupCount)?;
-    let entries = shorts(heap, words, first.saturating_add(1), end, Field::Group)?;
+    let groups = words.short(Field::GroupCount)?;
+    let entries = words.shorts(heap, end, Field::Group)?;
     Ok(Map { groups, entries })
 }
 
-// The guide that is told from the fifth word on.
-fn parse_guidance(heap: Global, words: &[&[u8]]) -> Result<Guidance, Failure> {
-    if words.len() <= 4 {
+// The guide that the words left tell.
+fn parse_guidance(heap: Global, words: &mut Words) -> Result<Guidance, Failure<Fault>> {
+    if words.is_at_end() {
         return Ok(Guidance::Blank);
     }
-    let second = next_map(words, 5);
-    let map = parse_map(heap, words, 4, second)?;
-    if second >= words.len() {
+    let second = next_map(words);
+    let map = parse_map(heap, words, second)?;
+    if words.is_at_end() {
         return Ok(Guidance::Map(map));
     }
-    let other = parse_map(heap, words, second, words.len())?;
+    let other = parse_map(heap, words, words.list.len())?;
     Ok(Guidance::Heavier(map, other))
 }
 
-// search MEASURE FACTS TARGET, and the guide
-pub(crate) fn parse_query(heap: Global, words: &[&[u8]]) -> Result<Query, Failure> {
+// MEASURE FACTS TARGET, and the guide
+pub(crate) fn parse_query(heap: Global, words: &mut Words) -> Result<Query, Failure<Fault>> {
     Ok(Query {
         scale: parse_scale(words)?,
-        facts: short_at(words, 2, Field::FactCount)?,
-        target: short_at(words, 3, Field::Target)?,
+        facts: words.short(Field::FactCount)?,
+        target: words.short(Field::Target)?,
         guidance: parse_guidance(heap, words)?,
     })
 }

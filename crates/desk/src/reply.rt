@@ -1,35 +1,25 @@
 // Replies as they are printed.
-use replay::call::Reply;
+use replay::call::{Done, Reply};
 use std::fmt;
 use std::fmt::Display;
-use text::refusal::Told;
-use text::weight::Written;
+use text::named::Named;
+use text::solution::Solution;
 
-// A reply, and the column that begins with the line where a target was found.
-#[derive(Drop)]
+// A reply, and the rules of the line where a target was found.
+#[derive(Clone, Copy)]
 pub struct Answer<'a, W> {
     pub reply: Reply<W>,
     pub line: &'a [u16],
 }
 
-impl<'a, W: Written> fmt::Display for Answer<'a, W> {
+impl<'a, W: Named> fmt::Display for Answer<'a, W> {
     fn fmt<F: fmt::Write>(&self, f: &mut fmt::Formatter<F>) -> fmt::Result {
+        let line = self.line;
         match self.reply {
-            Reply::Entered(number) => write!(f, "entered {number}"),
-            Reply::Changed => write!(f, "changed"),
-            Reply::Refused(refusal) => Told(refusal).fmt(f),
-            Reply::Found(found) => {
-                let name = W::name();
-                let closed = found.closed;
-                let taken = found.taken;
-                write!(f, "{name} ")?;
-                found.weight.write(f)?;
-                write!(f, " closed {closed} taken {taken} line")?;
-                for rule in self.line.iter().take(usize::from(found.line)) {
-                    write!(f, " {rule}")?;
-                }
-                Ok(())
-            }
+            Ok(Done::Entered(number)) => write!(f, "entered {number}"),
+            Ok(Done::Changed) => write!(f, "changed"),
+            Ok(Done::Found(found)) => Solution { found, line }.fmt(f),
+            Err(refusal) => write!(f, "{refusal}"),
         }
     }
 }

@@ -1,7 +1,6 @@
 -- What reading a file answers, and what it leaves in the slots.
-use Rattle.std.specs.Prelude.{ℕ, List, [], ◌∷◌, Ok, Err, Result}
-use Rattle.sheet.specs.declared.slot.Slot.{Slot}
-use Rattle.sheet.specs.declared.slot.Slot.TheVariants.{Empty, Full}
+use Rattle.std.specs.Prelude.{ℕ, List, [], ◌∷◌, None, Some, Ok, Err, Result}
+use Rattle.sheet.specs.Slots.{Slot}
 use Rattle.sheet.specs.Edits.{enter_slots}
 use Rattle.file.specs.declared.header.Header.{Header}
 use Rattle.file.specs.Faults.{Report, mapped}
@@ -27,9 +26,5 @@ read_slots bs xs = after_reading (file xs bs) xs
 abbrev pub filled : List Entry → List Slot → List Slot
 filled [] xs = xs
 filled (e ∷ es) [] = []
-filled (e ∷ es) (Empty ∷ xs) = Full (rule_of e) ∷ filled es xs
-filled (e ∷ es) (Full r ∷ xs) = Full r ∷ filled (e ∷ es) xs
-
-abbrev pub filled_by : Result (List Entry × List ℕ) Report → List Slot → List Slot
-filled_by (Ok q) xs = filled q.0 xs
-filled_by (Err e) xs = xs
+filled (e ∷ es) (None ∷ xs) = Some (rule_of e) ∷ filled es xs
+filled (e ∷ es) (Some r ∷ xs) = Some r ∷ filled (e ∷ es) xs

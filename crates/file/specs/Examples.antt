@@ -1,7 +1,6 @@
 -- Worked examples of the format.
-use Rattle.std.specs.Prelude.{◌≡◌, ℕ, List, [], ◌∷◌, ◌++◌, replicate, Ok, Err, Result}
-use Rattle.sheet.specs.declared.slot.Slot.{Slot}
-use Rattle.sheet.specs.declared.slot.Slot.TheVariants.{Empty, Full}
+use Rattle.std.specs.Prelude.{◌≡◌, ℕ, List, [], ◌∷◌, ◌++◌, replicate, None, Some, Ok, Err, Result}
+use Rattle.sheet.specs.Slots.{Slot}
 use Rattle.file.specs.declared.fault.Field.TheVariants as field
 use Rattle.file.specs.declared.header.Header.{Header}
 use Rattle.file.specs.Faults.{Report, reason, report, in_sheet, cut, malformed, tail}
@@ -37,7 +36,7 @@ sample =
     5 ∷ 4 ∷ 7 ∷ 0 ∷ 0 ∷ 4 ∷ 1 ∷ 0 ∷ 9 ∷ 1 ∷ 1 ∷ 0 ∷ 3 ∷ 2 ∷ 2 ∷ 0 ∷ 1 ∷ 2 ∷ 3 ∷ 1 ∷ 2 ∷ 6 ∷ 3 ∷ 2 ∷ 1 ∷ 1 ∷ 1 ∷ 4 ∷ 2 ∷ 3 ∷ 2 ∷ 0 ∷ []
 
 abbrev room : ℕ → List Slot
-room n = replicate n Empty
+room n = replicate n None
 
 -- the answer to bytes that are read into n empty slots
 abbrev read_into : ℕ → List ℕ → Result Header Report
@@ -46,11 +45,11 @@ read_into n bs = read_answer bs (room n)
 pub record Files : Type 0 where
   pub written_so : written sample_header sample_rules ≡ sample
   pub read_so : read_into 7 sample ≡ Ok sample_header
-  pub entered_so : read_slots (1 ∷ 0 ∷ 1 ∷ 0 ∷ 1 ∷ 0 ∷ 3 ∷ []) (room 2) ≡ Full (rule_of (entry 0 (0 ∷ []) 3)) ∷ Empty ∷ []
+  pub entered_so : read_slots (1 ∷ 0 ∷ 1 ∷ 0 ∷ 1 ∷ 0 ∷ 3 ∷ []) (room 2) ≡ Some (rule_of (entry 0 (0 ∷ []) 3)) ∷ None ∷ []
   pub no_bytes : read_into 7 [] ≡ Err (report cut field.Facts 0)
   pub no_rules : read_into 7 (5 ∷ 4 ∷ []) ≡ Err (report cut field.Rules 2)
   pub no_room : read_into 6 sample ≡ Err (report (reason in_sheet 7 []) field.Rules 2)
-  pub used : read_answer sample (Full (rule_of (entry 0 [] 4)) ∷ []) ≡ Err (report (reason in_sheet 4 []) field.Facts 0)
+  pub used : read_answer sample (Some (rule_of (entry 0 [] 4)) ∷ []) ≡ Err (report (reason in_sheet 4 []) field.Facts 0)
   pub long_body : read_into 7 (5 ∷ 4 ∷ 1 ∷ 0 ∷ 5 ∷ []) ≡ Err (report (reason in_sheet 5 []) field.Arity 4)
   pub dear : read_into 7 (5 ∷ 4 ∷ 1 ∷ 0 ∷ 0 ∷ 0xC1 ∷ 0x84 ∷ 0x3D ∷ []) ≡ Err (report (reason in_sheet 6 []) field.Cost 5)
   pub wide : read_into 7 (5 ∷ 4 ∷ 1 ∷ 0 ∷ 1 ∷ 0x80 ∷ 0x80 ∷ 0x04 ∷ 0 ∷ []) ≡ Err (report malformed field.Body 5)

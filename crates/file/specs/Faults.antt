@@ -53,9 +53,10 @@ seen f (Ok p) = Ok (p.0, p.1.now)
 seen f (Err e) = Err (f e)
 
 -- One step after another, as long as none is refused.
-abbrev pub bind : {A B E : Type 0} → Result A E → (A → Result B E) → Result B E
-bind (Ok x) next = next x
-bind (Err e) next = Err e
+infixl 10 ◌>>=◌
+abbrev pub ◌>>=◌ : {A B E : Type 0} → Result A E → (A → Result B E) → Result B E
+(Ok x) >>= next = next x
+(Err e) >>= next = Err e
 
 abbrev pub mapped : {A B E : Type 0} → (A → B) → Result A E → Result B E
 mapped f (Ok x) = Ok (f x)

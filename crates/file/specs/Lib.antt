@@ -2,6 +2,7 @@ pub mod Faults
 pub mod Number
 pub mod Rules
 pub mod Whole
+pub mod Reader
 pub mod Limits
 pub mod Entering
 pub mod Written

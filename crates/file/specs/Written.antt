@@ -1,8 +1,7 @@
 -- A file from the other side: how a header and rules are written, and what that has to do with reading.
-use Rattle.std.specs.Prelude.{◌≡◌, ℕ, ◌+◌, ◌/◌, ◌%◌, ◌≤◌, cond, List, [], ◌∷◌, ◌++◌, length, Ok, Err, Result, nat_lt}
+use Rattle.std.specs.Prelude.{◌≡◌, ℕ, ◌+◌, ◌/◌, ◌%◌, ◌≤◌, List, [], ◌∷◌, ◌++◌, length, Ok, Err, Result, nat_lt, if◌then◌else◌}
 use Rattle.std.specs.List.{flat_map, AllByRecursion}
-use Rattle.sheet.specs.declared.slot.Slot.{Slot}
-use Rattle.sheet.specs.Slots.{count, free}
+use Rattle.sheet.specs.Slots.{Slot, count, free}
 use Rattle.file.specs.declared.header.Header.{Header}
 use Rattle.file.specs.Faults.{Report}
 use Rattle.file.specs.Rules.{Entry}
@@ -10,11 +9,11 @@ use Rattle.file.specs.Limits.{Within}
 use Rattle.file.specs.Entering.{entered}
 
 -- The shortest form of a number: its groups of seven bits, lowest first, with 128 added to all but the last.
-abbrev pub spelled : ℕ → List ℕ
+unfoldable pub spelled : ℕ → List ℕ
 spelled n =
-    cond (nat_lt n 128) (n ∷ [])
-    (cond (nat_lt n 16384) ((128 + n % 128) ∷ (n / 128) ∷ [])
-    ((128 + n % 128) ∷ (128 + n / 128 % 128) ∷ (n / 128 / 128) ∷ []))
+    if nat_lt n 128 then n ∷ []
+    else if nat_lt n 16384 then (128 + n % 128) ∷ (n / 128) ∷ []
+    else (128 + n % 128) ∷ (128 + n / 128 % 128) ∷ (n / 128 / 128) ∷ []
 
 abbrev pub written_rule : Entry → List ℕ
 written_rule e = spelled e.head ++ (spelled (length e.body) ++ (flat_map spelled e.body ++ spelled e.cost))

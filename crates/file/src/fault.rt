@@ -50,7 +50,7 @@ impl From<Refusal> for Cause {
 }
 
 impl Cause {
-    // The refusal, whosever it is.
+    // The refusal, whosever it is; not From, since ? would then drop whose it is.
     pub fn refusal(self) -> Refusal
         ensures { result ≡ refusal_of self }
     {

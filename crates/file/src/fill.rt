@@ -1,28 +1,23 @@
 // Entering the rules of a file.
-ghost use Rattle.std.specs.Prelude.{◌≡◌, true, is_ok};
-ghost use Rattle.file.specs.Rules.{rules as rules_at};
-ghost use Rattle.file.specs.Entering.{filled_by};
+ghost use Rattle.std.specs.Prelude.{◌≡◌, List, length, Ok};
+ghost use Rattle.file.specs.Rules.{Entry};
+ghost use Rattle.file.specs.Whole.{closing};
+ghost use Rattle.file.specs.Entering.{filled};
 
+use crate::reader::Reader;
 use crate::rules::take_rule;
 use sheet::slot::Slot;
 
-// Fills the next empty slots with so many rules, where the bytes hold them.
-pub fn fill(slots: &mut [Slot], size: usize, input: &[u8], count: u16)
-    ensures { is_ok (rules_at size count input.now) ≡ true → slots.new ≡ filled_by (rules_at size count input.now) slots.old }
+// Fills the next empty slots with the rules that are left, where nothing follows them.
+pub fn fill(slots: &mut [Slot], mut reader: Reader)
+    ensures { (es : List Entry) → Ok es ≡ closing reader.entry.size (length es) reader.entry.left.now → slots.new ≡ filled es slots.old }
 {
-    let mut wanted = count;
-    let mut left = input;
     for slot in slots.iter_mut() {
-        if wanted == 0 {
-            return;
-        }
-        if let Slot::Empty = slot {
-            let Ok((rule, rest)) = take_rule(size, left) else {
+        if slot.is_none() {
+            let Ok(rule) = take_rule(&mut reader) else {
                 return;
             };
-            *slot = Slot::Full(rule);
-            wanted -= 1;
-            left = rest;
+            *slot = Some(rule);
         }
     }
 }

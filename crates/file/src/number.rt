@@ -1,14 +1,16 @@
 // Numbers: up to 3 bytes, each with seven bits of the number, the lowest bits first.
-ghost use Rattle.std.specs.Prelude.{◌≡◌};
+ghost use Rattle.std.specs.Prelude.{◌≡◌, ◌≤◌, IfOk, length};
 ghost use Rattle.file.specs.Faults.{seen, reason_of};
-ghost use Rattle.file.specs.Number.{number, short};
+ghost use Rattle.file.specs.Number.{number};
 
 use crate::fault::Cause;
 use sheet::refusal::Refusal;
 
 // Takes a number that has no byte too many, and answers it with the bytes after it.
+#[tactic(auto, unfolding(crate::specs::Number::number))]
 pub fn take_number(input: &[u8]) -> Result<(u32, &[u8]), Cause>
-    ensures { seen reason_of result ≡ number input.now }
+    ensures taken { seen reason_of result ≡ number input.now }
+    ensures rest { IfOk result (λ p. length p.1.now ≤ length input.now) }
 {
     match input {
         [a @ 0..=0x7f, rest @ ..] => Ok((*a as u32, rest)),
@@ -21,15 +23,4 @@ pub fn take_number(input: &[u8]) -> Result<(u32, &[u8]), Cause>
         )),
         _ => Err(Cause::Bytes(Refusal::Cut)),
     }
-}
-
-// Takes a number of at most 65,535.
-pub fn take_short(input: &[u8]) -> Result<(u16, &[u8]), Cause>
-    ensures { seen reason_of result ≡ short input.now }
-{
-    let (value, rest) = take_number(input)?;
-    if value > 65_535 {
-        return Err(Cause::Bytes(Refusal::Number));
-    }
-    Ok((value as u16, rest))
 }

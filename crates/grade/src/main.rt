@@ -1,39 +1,35 @@
 // Grades the sheet file on standard input, under each measure with the blank guide.
 #![tactic(auto)]
 
-mod failure;
 mod grade;
 mod input;
 mod report;
 
-use failure::Failure;
-use input::read_input;
-use report::{Report, grade_file};
+use input::INPUT_LIMIT;
+use memory::failure::Failure;
+use memory::input::read_up_to;
+use report::grade_file;
+use std::io;
 use std::process::ExitCode;
 
-fn run(rt: &HostRuntime) -> Result<Report, Failure> {
-    let bytes = read_input(rt)?;
-    grade_file(rt.alloc(), &bytes)
-}
-
 // Prints the grades, or the number of the refusal.
-fn answer(rt: &HostRuntime) -> Result<(), Failure> {
-    match run(rt) {
-        Ok(report) => print!(rt; "{report}")?,
-        Err(Failure::Refused(refusal)) => {
+fn run(rt: &HostRuntime) -> io::Result<ExitCode> {
+    let bytes = read_up_to(rt.alloc(), rt.stdin(), INPUT_LIMIT)?;
+    match grade_file(rt.alloc(), &bytes) {
+        Ok(report) => {
+            print!(rt; "{report}")?;
+            Ok(ExitCode::SUCCESS)
+        }
+        Err(Failure::Told(refusal)) => {
             let number = refusal.number();
             println!(rt; "refused {number}")?;
-            return Err(Failure::Refused(refusal));
+            Ok(ExitCode::FAILURE)
         }
-        Err(failure) => return Err(failure),
+        Err(Failure::Memory(error)) => Err(error.into()),
     }
-    Ok(())
 }
 
-// A failure ends the program with status 1.
+// An error ends the program with status 1.
 fn main(rt: HostRuntime) -> ExitCode {
-    match answer(&rt) {
-        Ok(()) => ExitCode::SUCCESS,
-        Err(_) => ExitCode::FAILURE,
-    }
+    run(&rt).unwrap_or(ExitCode::FAILURE)
 }

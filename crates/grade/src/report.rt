@@ -1,15 +1,16 @@
 // The grades of a sheet file, one line a measure.
-use crate::failure::Failure;
-use crate::grade::{Grade, RULES, grade_sheet};
+use crate::grade::{Grade, grade_sheet};
+use crate::input::check_length;
 use measure::hardest::Hardest;
 use measure::total::Total;
 use measure::total_steps::TotalSteps;
+use memory::columns::RULES;
+use memory::failure::Failure;
 use sheet::passed::Passed;
 use sheet::passed::pass::pass;
-use sheet::slot::Slot;
+use sheet::refusal::Refusal;
 use std::alloc::Global;
 use std::fmt;
-use text::weight::Written;
 
 #[derive(Drop)]
 pub struct Report {
@@ -19,12 +20,12 @@ pub struct Report {
 }
 
 // Reads the file into a new sheet, and grades that under each measure.
-pub(crate) fn grade_file(heap: Global, bytes: &[u8]) -> Result<Report, Failure> {
-    let mut slots = vec![in heap; Slot::Empty; RULES]?;
-    let header = file::read(bytes, &mut slots)?;
-    let lent: &[Slot] = &slots;
+pub(crate) fn grade_file(heap: Global, bytes: &[u8]) -> Result<Report, Failure<Refusal>> {
+    check_length(bytes.len())?;
+    let mut slots = vec![in heap; None; RULES]?;
+    let header = file::read(bytes, &mut slots).map_err(|fault| fault.cause.refusal())?;
     let mut view = Passed::empty();
-    pass(lent, header.facts, &mut view)?;
+    pass(&slots, header.facts, &mut view)?;
     Ok(Report {
         total: grade_sheet(heap, &view, header.target)?,
         hardest: grade_sheet(heap, &view, header.target)?,
@@ -32,28 +33,11 @@ pub(crate) fn grade_file(heap: Global, bytes: &[u8]) -> Result<Report, Failure> 
     })
 }
 
-impl<W: Written> fmt::Display for Grade<W> {
-    fn fmt<F: fmt::Write>(&self, f: &mut fmt::Formatter<F>) -> fmt::Result {
-        let name = W::name();
-        let closed = self.found.closed;
-        let taken = self.found.taken;
-        write!(f, "{name} ")?;
-        self.found.weight.write(f)?;
-        write!(f, " closed {closed} taken {taken} line")?;
-        for rule in self.line.iter() {
-            write!(f, " {rule}")?;
-        }
-        Ok(())
-    }
-}
-
 impl fmt::Display for Report {
     fn fmt<F: fmt::Write>(&self, f: &mut fmt::Formatter<F>) -> fmt::Result {
         let total = &self.total;
         let hardest = &self.hardest;
         let total_steps = &self.total_steps;
-        writeln!(f, "{total}")?;
-        writeln!(f, "{hardest}")?;
-        writeln!(f, "{total_steps}")
+        write!(f, "{total}\n{hardest}\n{total_steps}\n")
     }
 }

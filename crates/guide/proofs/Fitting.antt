@@ -4,8 +4,8 @@ use Rattle.std.proofs.lemmas.List.{at_drop_more, at_drop_all, take-map, drop-map
 use Rattle.std.proofs.lemmas.Bool.{cases_eq, and_from, and_left, and_right, or_left, cond-true, cond-false}
 use Rattle.measure.specs.Ops.{Ops, Laws}
 use Rattle.sheet.specs.declared.rule.Rule.{Rule as Record}
-use Rattle.sheet.specs.declared.slot.Slot.{Slot}
-use Rattle.sheet.specs.declared.slot.Slot.TheVariants.{Empty, Full}
+use Rattle.sheet.specs.Slots.{Slot}
+use Rattle.std.specs.Prelude.{None, Some}
 use Rattle.sheet.specs.Refusals.{Answer}
 use Rattle.sheet.specs.Rules.{body_of}
 use Rattle.sheet.specs.Slots.{rule_in}
@@ -40,11 +40,11 @@ module _ {W : Type 0} {m : Ops W} (laws : Laws m) (floor : ℕ → W) (r : Recor
   joining facts = m.join (m.effort r.cost) (joined m (map floor facts))
 
   -- the effort of the cost is that of the limit, where it is above the limit
-  pub joining_is : (facts : List ℕ) → joining facts ≡ m.join (weigh m (Full r)).effort (joined m (map floor facts))
+  pub joining_is : (facts : List ℕ) → joining facts ≡ m.join (weigh m (Some r)).effort (joined m (map floor facts))
   joining_is facts = ap (λ w. m.join w (joined m (map floor facts))) (laws.effort_limit r.cost)
 
   -- what the floors before and after a place give
-  pub beside_is : (i : ℕ) → m.join (joining (take i (body_of r))) (joined m (map floor (drop (i + 1) (body_of r)))) ≡ beside m floor (weigh m (Full r)) i
+  pub beside_is : (i : ℕ) → m.join (joining (take i (body_of r))) (joined m (map floor (drop (i + 1) (body_of r)))) ≡ beside m floor (weigh m (Some r)) i
   beside_is i =
       let fs = map floor (body_of r) in
       let parts : m.join (m.join (m.effort r.cost) (joined m (take i fs))) (joined m (drop (i + 1) fs)) ≡ joining (without (body_of r) i) =
@@ -61,23 +61,23 @@ module _ {W : Type 0} (m : Ops W) (floor rest : ℕ → W) where
   unfolding rule_fits
   struck_fits a s = or_left a.struck _ s
 
-  slot_fits : (x : Slot) → rule_fits m floor rest (weigh m (Full (rule_in x))) ≡ rule_fits m floor rest (weigh m x)
+  slot_fits : (x : Slot) → rule_fits m floor rest (weigh m (Some (rule_in x))) ≡ rule_fits m floor rest (weigh m x)
   unfolding rule_fits
-  slot_fits Empty = refl
-  slot_fits (Full r) = refl
+  slot_fits None = refl
+  slot_fits (Some r) = refl
 
   -- a rule that fits, and the first that does not
-  pub rules_pass : (xs : List Slot) (i : ℕ) → i < length xs → rule_fits m floor rest (weigh m (Full (rule_in (get_or xs i Empty)))) ≡ true
+  pub rules_pass : (xs : List Slot) (i : ℕ) → i < length xs → rule_fits m floor rest (weigh m (Some (rule_in (get_or xs i None)))) ≡ true
       → check_rules m floor rest (weighted m (drop i xs)) i ≡ check_rules m floor rest (weighted m (drop (i + 1) xs)) (i + 1)
   rules_pass xs i l e =
-      let step = at_drop_more (λ ys. check_rules m floor rest (weighted m ys) i) xs i Empty l in
-      step ∙ cond-true _ _ _ (sym (slot_fits (get_or xs i Empty)) ∙ e) ∙ rw add-one
+      let step = at_drop_more (λ ys. check_rules m floor rest (weighted m ys) i) xs i None l in
+      step ∙ cond-true _ _ _ (sym (slot_fits (get_or xs i None)) ∙ e) ∙ rw add-one
 
-  pub rules_fail : (xs : List Slot) (i : ℕ) → i < length xs → rule_fits m floor rest (weigh m (Full (rule_in (get_or xs i Empty)))) ≡ false
+  pub rules_fail : (xs : List Slot) (i : ℕ) → i < length xs → rule_fits m floor rest (weigh m (Some (rule_in (get_or xs i None)))) ≡ false
       → check_rules m floor rest (weighted m (drop i xs)) i ≡ rule_fails i
   rules_fail xs i l e =
-      let step = at_drop_more (λ ys. check_rules m floor rest (weighted m ys) i) xs i Empty l in
-      step ∙ cond-false _ _ _ (sym (slot_fits (get_or xs i Empty)) ∙ e)
+      let step = at_drop_more (λ ys. check_rules m floor rest (weighted m ys) i) xs i None l in
+      step ∙ cond-false _ _ _ (sym (slot_fits (get_or xs i None)) ∙ e)
 
   pub rules_end : (xs : List Slot) (i : ℕ) → length xs ≤ i → check_rules m floor rest (weighted m (drop i xs)) i ≡ fits
   rules_end xs i l = at_drop_all (λ ys. check_rules m floor rest (weighted m ys) i) xs i l
@@ -86,10 +86,6 @@ module _ {W : Type 0} (m : Ops W) (floor rest : ℕ → W) where
     pub target_first : (v : Verdict) → m.leb (rest target) m.nothing ≡ true → check_rules m floor rest rules 0 ≡ v
         → fit_answer v target ≡ fit_answer (check_fit m floor rest rules target) target
     target_first v h e = ap (λ u. fit_answer u target) (sym (cond-true _ _ _ h ∙ e))
-
-    pub target_alone : m.leb (rest target) m.nothing ≡ false
-        → fit_answer target_fails target ≡ fit_answer (check_fit m floor rest rules target) target
-    target_alone h = ap (λ u. fit_answer u target) (sym (cond-false _ _ _ h))
 
     verdict_decides : (v : Verdict) → DecidedAt m floor rest rules target v → Decides m floor rest rules target (fit_answer v target)
     verdict_decides fits d = record {

@@ -17,8 +17,11 @@ module _ {W : Type 0} {m : Ops W} (laws : Laws m) where
   pub alone : (a : W) → m.norm a ≡ a → a ≡ m.join a (joined m [])
   alone a h = sym h ∙ sym (laws.neutral a) ∙ laws.comm m.nothing a
 
-  pub effort_alone : (c : ℕ) → m.effort c ≡ m.join (m.effort c) (joined m [])
-  effort_alone c = alone (m.effort c) (laws.norm_effort c)
+  -- one element more
+  pub joined_next : {A : Type 0} (a : W) (g : A → W) (xs : List A) (x : A)
+      → m.join (m.join a (joined m (map g xs))) (g x) ≡ m.join a (joined m (map g (xs ++ (x ∷ []))))
+  joined_next a g xs x =
+      laws.assoc a _ _ ∙ ap (m.join a) (sym (joined_push (map g xs) (g x))) ∙ ap (λ l. m.join a (joined m l)) (sym (map-append g xs (x ∷ [])))
 
   -- one place of the body more
   pub joined_more : (a : W) (g : ℕ → W) (body : List ℕ) (i : ℕ) → i < length body

@@ -6,37 +6,27 @@ ghost use Rattle.guide.specs.Fit.{fit_answer, Decides};
 ghost use Rattle.guide.specs.Weighted.{weigh, weighted};
 ghost use Rattle.sheet.specs.Refusals.{answer};
 ghost use Rattle.sheet.specs.Rules.{body_of};
-ghost use Rattle.sheet.specs.declared.slot.Slot.TheVariants.{Full};
+ghost use Rattle.std.specs.Prelude.{Some};
 
 use crate::Guide;
+use crate::each::join_each;
 use measure::Measure;
 use sheet::passed::Passed;
 use sheet::refusal::{Misfit, Refusal};
 use sheet::rule::Rule;
-
-// A weight joined with the floors of some facts.
-fn with_floors<W: Measure, G: Guide<W>>(start: W, facts: &[u16], guide: &G) -> W
-    requires { W.Measure.ops.norm start ≡ start }
-    ensures { result ≡ W.Measure.ops.join start (joined W.Measure.ops (map (G.Guide.floor guide.now) facts.now)) }
-{
-    let mut weight = start;
-    for fact in facts {
-        weight = weight.join(guide.floor(*fact));
-    }
-    weight
-}
+use sheet::slot::rule_in;
 
 // Whether a rule keeps both conditions:
 // it undercuts neither the rest of a fact in its body, by its effort, the other floors and the rest of its head,
 // nor the floor of its head, by its effort and the floors of its body.
 fn keeps<W: Measure, G: Guide<W>>(rule: &Rule, guide: &G) -> bool
-    ensures { result ≡ (floor_kept W.Measure.ops (G.Guide.floor guide.now) (weigh W.Measure.ops (Full rule.now)) && all_below (length (body_of rule.now)) (rest_kept W.Measure.ops (G.Guide.floor guide.now) (G.Guide.rest guide.now) (weigh W.Measure.ops (Full rule.now)))) }
+    ensures { result ≡ (floor_kept W.Measure.ops (G.Guide.floor guide.now) (weigh W.Measure.ops (Some rule.now)) && all_below (length (body_of rule.now)) (rest_kept W.Measure.ops (G.Guide.floor guide.now) (G.Guide.rest guide.now) (weigh W.Measure.ops (Some rule.now)))) }
 {
     let body = rule.body();
     let head_rest = guide.rest(rule.head);
     let mut before = W::effort(rule.cost);
     for (place, fact) in body.iter().enumerate() {
-        let beside = with_floors(before, &body[place + 1..], guide);
+        let beside = join_each(before, &body[place + 1..], |fact| guide.floor(fact));
         if !guide.rest(*fact).no_heavier(beside.join(head_rest)) {
             return false;
         }
@@ -47,7 +37,7 @@ fn keeps<W: Measure, G: Guide<W>>(rule: &Rule, guide: &G) -> bool
 
 // Whether a rule is struck or keeps both conditions.
 fn rule_fits<W: Measure, G: Guide<W>>(rule: &Rule, guide: &G) -> bool
-    ensures { result ≡ rule_fits W.Measure.ops (G.Guide.floor guide.now) (G.Guide.rest guide.now) (weigh W.Measure.ops (Full rule.now)) }
+    ensures { result ≡ rule_fits W.Measure.ops (G.Guide.floor guide.now) (G.Guide.rest guide.now) (weigh W.Measure.ops (Some rule.now)) }
 {
     rule.struck || keeps(rule, guide)
 }
@@ -66,7 +56,7 @@ pub fn check_fit<W: Measure, G: Guide<W>>(
     }
     let slots = sheet.slots();
     for (number, slot) in slots.iter().enumerate() {
-        if !rule_fits(&slot.rule(), guide) {
+        if !rule_fits(&rule_in(slot), guide) {
             return Err(Refusal::Unfit(Misfit::Rule(number as u16)));
         }
     }

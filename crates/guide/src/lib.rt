@@ -2,6 +2,7 @@
 #![tactic(auto)]
 
 pub mod blank;
+pub mod each;
 pub mod fit;
 pub mod heavier;
 pub mod map;

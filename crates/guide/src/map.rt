@@ -17,15 +17,14 @@ pub struct MapGuide<'a, W> {
 fn entry_of<W: Measure>(map: &[u16], column: &[W], beside: &[W], fact: u16) -> W
     ensures { result ≡ by_group W.Measure.ops map.now column.now beside.now fact }
 {
-    let fact = fact as usize;
-    if fact >= map.len() {
+    let Some(group) = map.get(fact as usize) else {
         return W::nothing();
+    };
+    let group = *group as usize;
+    match column.get(group) {
+        Some(weight) if group < beside.len() => *weight,
+        _ => W::nothing(),
     }
-    let group = map[fact] as usize;
-    if group >= column.len() || group >= beside.len() {
-        return W::nothing();
-    }
-    column[group]
 }
 
 impl<'a, W: Measure> Guide<W> for MapGuide<'a, W> {

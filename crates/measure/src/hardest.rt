@@ -1,8 +1,10 @@
 // Hardest: the largest cost of all, from 0 to 1,000,000.
+ghost use Rattle.std.specs.Prelude.{Some, decimal};
 ghost use Rattle.measure.specs.Hardest.{hardest_ops};
 ghost use Rattle.std.proofs.Common.{rules};
 
 use crate::{COST_LIMIT, Measure};
+use std::fmt;
 
 #[derive(Clone, Copy)]
 pub struct Hardest {
@@ -36,5 +38,14 @@ impl Measure for Hardest {
 
     fn no_heavier(self, other: Hardest) -> bool {
         self.cost.min(COST_LIMIT) <= other.cost.min(COST_LIMIT)
+    }
+}
+
+// The cost in decimal digits.
+impl fmt::Display for Hardest {
+    ghost output = { λ s. Some (decimal s.cost) };
+
+    fn fmt<F: fmt::Write>(&self, f: &mut fmt::Formatter<F>) -> fmt::Result {
+        write!(f, "{}", self.cost)
     }
 }

@@ -32,6 +32,7 @@ pub trait Measure: Copy {
         ensures { result ≡ ops.join self other };
 
     // Whether this weight is no heavier than the other.
+    // Not PartialOrd: a derive would tell records apart that both count as heaviest.
     fn no_heavier(self, other: Self) -> bool
         ensures { result ≡ ops.leb self other };
 

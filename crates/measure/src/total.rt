@@ -1,10 +1,13 @@
 // Total: the sum of all costs, from 0 to 1,000,000,000.
+ghost use Rattle.std.specs.Prelude.{Some, decimal};
 ghost use Rattle.measure.specs.Total.{total_ops};
 ghost use Rattle.std.proofs.Common.{rules};
 
 use crate::{COST_LIMIT, Measure};
+use std::fmt;
 
-const TOTAL_LIMIT: u32 = 1_000_000_000;
+// The heaviest total.
+pub(crate) const TOTAL_LIMIT: u32 = 1_000_000_000;
 
 #[derive(Clone, Copy)]
 pub struct Total {
@@ -40,5 +43,14 @@ impl Measure for Total {
 
     fn no_heavier(self, other: Total) -> bool {
         self.total.min(TOTAL_LIMIT) <= other.total.min(TOTAL_LIMIT)
+    }
+}
+
+// The total in decimal digits.
+impl fmt::Display for Total {
+    ghost output = { λ s. Some (decimal s.total) };
+
+    fn fmt<F: fmt::Write>(&self, f: &mut fmt::Formatter<F>) -> fmt::Result {
+        write!(f, "{}", self.total)
     }
 }

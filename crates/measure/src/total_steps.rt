@@ -1,13 +1,13 @@
 // Total-steps: the sum of all costs and the number of rules, compared by the sum and then by the number.
-ghost use Rattle.std.specs.Prelude.{◌≡◌};
+ghost use Rattle.std.specs.Prelude.{◌≡◌, ◌++◌, Some, codes, decimal};
 ghost use Rattle.measure.specs.Ops.{Ops};
 ghost use Rattle.measure.specs.TotalSteps.{total_steps_ops};
 ghost use Rattle.std.proofs.Common.{arith};
 ghost use Rattle.std.proofs.lemmas.Bool.Decides.{nat_tests};
 
+use crate::total::TOTAL_LIMIT;
 use crate::{COST_LIMIT, Measure};
-
-const TOTAL_LIMIT: u32 = 1_000_000_000;
+use std::fmt;
 
 const STEPS_LIMIT: u16 = 65_535;
 
@@ -91,5 +91,14 @@ impl Measure for TotalSteps {
         let a = self.norm();
         let b = other.norm();
         a.total < b.total || (a.total == b.total && a.steps <= b.steps)
+    }
+}
+
+// The total and the steps in decimal digits, with a slash between.
+impl fmt::Display for TotalSteps {
+    ghost output = { λ s. Some (decimal s.total ++ codes "/" ++ decimal s.steps) };
+
+    fn fmt<F: fmt::Write>(&self, f: &mut fmt::Formatter<F>) -> fmt::Result {
+        write!(f, "{}/{}", self.total, self.steps)
     }
 }

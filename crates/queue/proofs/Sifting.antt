@@ -2,7 +2,7 @@
 use Rattle.std.proofs.Common.{◌≡◌, ℕ, zero, suc, ◌+◌, ◌-◌, ◌*◌, ◌/◌, ◌<◌, ◌≤◌, Bool, true, false, List, length, get_or, ⊎_elim, arith}
 use Rattle.std.proofs.lemmas.Bool.{cases_eq, both_ways}
 use Rattle.queue.specs.Linear.{Linear}
-use Rattle.queue.specs.Heap.{Heap, Edges, Above, Below}
+use Rattle.queue.specs.Heap.{Heap, Edges}
 
 -- What swapping a and b does to each place.
 abbrev pub Places : {X : Type 0} → List X → List X → ℕ → ℕ → Type 0
@@ -46,21 +46,7 @@ heap_from_edges leb xs edges k d p s = edges ((k - 1) / 2) k d (omega arith) (om
 pub edges_from_heap : {X : Type 0} (leb : X → X → Bool) (xs : List X) → Heap leb xs → Edges leb xs
 edges_from_heap leb xs heap i j d l h s = let e : (j - 1) / 2 ≡ i = omega arith in let t = heap j d (omega arith) s in cc
 
--- The last element rises: the start, a step, and the two ends.
-module _ {X : Type 0} (leb : X → X → Bool) where
-  pub rise_begins : (xs : List X) → Above leb xs → Rising leb xs (length xs - 1)
-  rise_begins xs above = (λ i j d l h s n. above i j d l h (omega arith), λ i j d l h l' h' s. absurd (omega arith))
-
-  pub rise_ends : (xs : List X) (place : ℕ) → place ≤ 0 → Rising leb xs place → Edges leb xs
-  rise_ends xs place z rising i j d l h s = rising.0 i j d l h s (λ e. omega arith)
-
-  pub rise_rests : (xs : List X) (p place : ℕ) → 2 * p < place → place ≤ 2 * p + 2 → ((d : X) → leb (get_or xs p d) (get_or xs place d) ≡ true) → Rising leb xs place → Edges leb xs
-  rise_rests xs p place l h fine rising i j d l' h' s =
-      ⊎_elim
-      (λ (e : j ≡ place). let q : i ≡ p = omega arith in let t = fine d in cc)
-      (λ (ne : j ≡ place → ⊥). rising.0 i j d l' h' s ne)
-      (cases_eq j place)
-
+-- The last element rises by a step.
 module _ {X : Type 0} {leb : X → X → Bool} (lin : Linear leb) (xs ys : List X) (p place : ℕ) (lo : 2 * p < place) (hi : place ≤ 2 * p + 2) (within : place < length xs) (long : length ys ≡ length xs) (swapped : Places xs ys p place) (less : (d : X) → leb (get_or xs place d) (get_or xs p d) ≡ true) (was : Rising leb xs place) where
   rise_edges : (i j : ℕ) (d : X) → 2 * i < j → j ≤ 2 * i + 2 → j < length ys → (j ≡ p → ⊥) → leb (get_or ys i d) (get_or ys j d) ≡ true
   rise_edges i j d l h s n =
@@ -96,14 +82,8 @@ module _ {X : Type 0} {leb : X → X → Bool} (lin : Linear leb) (xs ys : List 
   pub rise_steps : Rising leb ys p
   rise_steps = (rise_edges, rise_over)
 
--- The first element sinks: the start, a step, and the two ends.
+-- The first element sinks: where it rests, and a step.
 module _ {X : Type 0} (leb : X → X → Bool) where
-  pub sink_begins : (xs : List X) → Below leb xs → Sinking leb xs 0
-  sink_begins xs below = (λ i j d l h s n. below i j d (omega arith) l h s, λ i j d l h l' h' s. absurd (omega arith))
-
-  pub sink_ends : (xs : List X) (place : ℕ) → length xs / 2 ≤ place → Sinking leb xs place → Edges leb xs
-  sink_ends xs place last sinking i j d l h s = sinking.0 i j d l h s (λ e. omega arith)
-
   pub sink_rests : Linear leb → (xs : List X) (place child : ℕ) → ((d : X) → leb (get_or xs place d) (get_or xs child d) ≡ true) → ((j : ℕ) (d : X) → 2 * place < j → j ≤ 2 * place + 2 → j < length xs → leb (get_or xs child d) (get_or xs j d) ≡ true) → Sinking leb xs place → Edges leb xs
   sink_rests lin xs place child fine least sinking i j d l h s =
       ⊎_elim

@@ -3,6 +3,7 @@
 
 pub mod entry;
 pub mod heap;
+pub mod lent;
 pub mod order;
 pub mod run;
 mod sift;

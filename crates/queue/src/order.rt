@@ -1,4 +1,5 @@
 // The order by which a queue takes its elements.
+// Not Ord: a derived one would compare an entry's numbers and not by its measure, and by hand it is four impls in place of one.
 ghost use Rattle.std.specs.Prelude.{◌≡◌, Bool, true};
 ghost use Rattle.queue.specs.Linear.{Linear, Apart};
 

@@ -1,8 +1,9 @@
 // Whole runs: any list of puts and takes, and what each is answered.
-ghost use Rattle.std.specs.Prelude.{◌≡◌, ◌<◌, length, slice_set};
-ghost use Rattle.queue.specs.Run.{Ready, Step, Ran};
+ghost use Rattle.std.specs.Prelude.{◌≡◌};
+ghost use Rattle.queue.specs.Run.{Step, Ran};
 
-use crate::heap::{Full, put, take};
+use crate::heap::Full;
+use crate::lent::Queue;
 use crate::order::Order;
 
 #[derive(Clone, Copy)]
@@ -11,6 +12,7 @@ pub enum Op<T> {
     Take,
 }
 
+// A put's Result and a take's Option, in one column of replies.
 #[derive(Clone, Copy)]
 pub enum Reply<T> {
     Added,
@@ -34,36 +36,26 @@ pub fn run_all<T: Order>(
     if replies.len() < ops.len() {
         return Err(Short);
     }
-    let mut count = 0;
-    for i in 0..ops.len() {
-        let (reply, left) = answer(ops[i], queue, count);
-        write(replies, i, reply);
-        count = left;
+    let mut held = Queue::new(queue);
+    for (i, op) in ops.iter().enumerate() {
+        replies[i] = answer(*op, &mut held);
     }
-    Ok(count)
+    Ok(held.count)
 }
 
-// The reply to one put or take, and how many elements are then in the queue.
-fn answer<T: Order>(op: Op<T>, queue: &mut [T], count: usize) -> (Reply<T>, usize)
-    requires { Ready T.Order.leb queue.old count }
-    ensures { Step T.Order.leb op queue.old count queue.new result.0 result.1 }
+// The reply to one put or take.
+fn answer<T: Order>(op: Op<T>, queue: &mut Queue<T>) -> Reply<T>
+    ensures same { queue.new.places.ghost_name ≡ queue.old.places.ghost_name }
+    ensures steps { Step T.Order.leb op queue.old.places.now queue.old.count queue.new.places.now result queue.new.count }
 {
     match op {
-        Op::Put(x) => match put(queue, count, x) {
-            Ok(more) => (Reply::Added, more),
-            Err(Full) => (Reply::Refused, count),
+        Op::Put(x) => match queue.put(x) {
+            Ok(()) => Reply::Added,
+            Err(Full) => Reply::Refused,
         },
-        Op::Take => match take(queue, count) {
-            Some(x) => (Reply::Taken(x), count - 1),
-            None => (Reply::Empty, count),
+        Op::Take => match queue.take() {
+            Some(x) => Reply::Taken(x),
+            None => Reply::Empty,
         },
     }
-}
-
-// Writes a into the column at i.
-fn write<A: Copy>(column: &mut [A], i: usize, a: A)
-    requires { i < length column.old }
-    ensures { column.new ≡ slice_set column.old i a }
-{
-    column[i] = a;
 }

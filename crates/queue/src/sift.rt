@@ -1,4 +1,5 @@
 // Mending the order of a heap after one element was changed.
+// The loops follow one path of the tree: the next place is half or double the last, so no range yields them.
 ghost use Rattle.std.specs.Prelude.{◌≡◌, ℕ, ◌+◌, ◌*◌, ◌<◌, ◌≤◌, true, length, slice_index_or};
 ghost use Rattle.std.specs.List.Sorted.{IsPermutation};
 ghost use Rattle.queue.specs.Heap.{Edges, Above, Below};

@@ -1,5 +1,5 @@
 mod Seeking
-mod Calls
+mod Lengths
 mod Running
 mod Starting
 mod Tidy

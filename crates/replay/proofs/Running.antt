@@ -1,83 +1,71 @@
 -- A list of calls goes on, one call at a time.
-use Rattle.std.proofs.Common.{◌≡◌, ℕ, ◌+◌, ◌<◌, ◌≤◌, true, List, [], ◌∷◌, ◌++◌, map, length, get_or, take, drop, set, sym, refl, ap, ◌∙◌, arith}
-use Rattle.std.proofs.lemmas.List.{append-nil, append_assoc, map-append, length-set, take_more_set, drop-set-lt, drop-drop, at_drop_more, at_drop_all}
-use Rattle.std.proofs.lemmas.Bool.{both_ways}
+use Rattle.std.proofs.Common.{◌≡◌, ℕ, ◌+◌, ◌<◌, true, List, [], ◌∷◌, ◌++◌, map, length, get_or, set, take, drop, sym, refl, ap, ◌∙◌, arith}
+use Rattle.std.specs.List.{fold, scan}
+use Rattle.std.proofs.lemmas.List.{take_all, take_more, take_more_set, map-append, drop-set-lt, drop-drop}
+use Rattle.std.proofs.lemmas.List.Sums.{fold_more}
 use Rattle.measure.specs.Ops.{Ops}
+use Rattle.search.specs.declared.columns.Columns.{Columns}
 use Rattle.search.specs.Left.{Scratch}
-use Rattle.sheet.specs.Refusals.{Answer}
+use Rattle.sheet.specs.Refusals.{answer}
 use Rattle.replay.specs.declared.call.Call.{Call}
-use Rattle.replay.specs.declared.call.Reply.{Reply}
-use Rattle.replay.specs.Replies.{Given, said}
-use Rattle.replay.specs.Run.{Board, Lengths, replied, next, board_after, replies_to, Written}
+use Rattle.replay.specs.Replies.{Reply}
+use Rattle.replay.specs.Run.{Board, ColumnsLeft, Lengths, replied, next, board_after, replies_to, Written}
 
-pub scratch_again : {X : Type 0} (n : ℕ) (xs ys zs : List X) → Scratch true n xs ys → Scratch true n ys zs → Scratch true n xs zs
-scratch_again n xs ys zs s t = record { long = t.long ∙ s.long; beyond = t.beyond ∙ s.beyond; kept = λ e. absurd (both_ways _ e refl) }
+scratch_again : {X : Type 0} (n : ℕ) (xs ys zs : List X) → Scratch true n xs ys → Scratch true n ys zs → Scratch true n xs zs
+scratch_again n xs ys zs s t = record { long = t.long ∙ s.long; beyond = t.beyond ∙ s.beyond; kept = λ e. grind arith }
 
-pub replies_length : {W G : Type 0} (m : Ops W) (long : Lengths) (floor rest : G → ℕ → W) (b : Board W) (cs : List (Call G)) → length (replies_to m long floor rest b cs) ≡ length cs
-replies_length m long floor rest b [] = refl
-replies_length m long floor rest b (c ∷ cs) = let e = replies_length m long floor rest (next m long floor rest b c) cs in omega arith
+pub left_again : {W : Type 0} (n k : ℕ) (a b c : Columns W) → k ≡ n → ColumnsLeft n a b → ColumnsLeft k b c → ColumnsLeft n a c
+left_again n k a b c e s t =
+    let u : ColumnsLeft n b c = rw (← e) t in record {
+      queues = scratch_again _ _ _ _ s.queues u.queues;
+      works = scratch_again _ _ _ _ s.works u.works;
+      lengths = u.lengths ∙ s.lengths;
+      same = record {
+        weights = u.same.weights ∙ s.same.weights;
+        reasons = u.same.reasons ∙ s.same.reasons;
+        line = u.same.line ∙ s.same.line;
+        queue = u.same.queue ∙ s.same.queue;
+        work = u.same.work ∙ s.same.work;
+      };
+    }
 
-module _ {W G : Type 0} (m : Ops W) (long : Lengths) (floor rest : G → ℕ → W) (calls : List (Call G)) (b₀ : Board W) (before : List (Reply W)) where
+module _ {S X Y : Type 0} (next : S → X → S) (out : S → X → Y) where
+  pub length_scan : (a : S) (xs : List X) → length (scan next out a xs) ≡ length xs
+  length_scan a [] = refl
+  length_scan a (x ∷ xs) = let e = length_scan (next a x) xs in omega arith
+
+  scan_push : (a : S) (xs : List X) (x : X) → scan next out a (xs ++ x ∷ []) ≡ scan next out a xs ++ out (fold next a xs) x ∷ []
+  scan_push a [] x = refl
+  scan_push a (y ∷ xs) x = ap (λ l. out a y ∷ l) (scan_push (next a y) xs x)
+
+  pub scan_more : (a : S) (xs : List X) (i : ℕ) (d : X) → i < length xs
+      → scan next out a (take (i + 1) xs) ≡ scan next out a (take i xs) ++ out (fold next a (take i xs)) (get_or xs i d) ∷ []
+  scan_more a xs i d h = ap (scan next out a) (take_more xs i d h) ∙ scan_push a (take i xs) (get_or xs i d)
+
+module _ {W G : Type 0} (m : Ops W) (long : Lengths) (floor rest : G → ℕ → W) (b₀ : Board W) (calls : List (Call G)) (before : List (Reply W)) where
   -- the first i calls are made
   pub record Going (i : ℕ) (b : Board W) (replies : List (Reply W)) : Type 0 where
-    pub board : board_after m long floor rest b (drop i calls) ≡ board_after m long floor rest b₀ calls
-    pub told : map said (take i replies) ++ replies_to m long floor rest b (drop i calls) ≡ replies_to m long floor rest b₀ calls
+    pub board : b ≡ board_after m long floor rest b₀ (take i calls)
+    pub told : map answer (take i replies) ≡ replies_to m long floor rest b₀ (take i calls)
     pub beyond : drop i replies ≡ drop i before
-    pub size : length replies ≡ length before
 
-  pub begun : Going 0 b₀ before
-  begun = record { board = refl; told = refl; beyond = refl; size = refl }
-
-  pub goes_on : (i : ℕ) (b b' : Board W) (replies : List (Reply W)) (c : Call G) (r : Reply W) → i < length calls → i < length replies → c ≡ get_or calls i c
-      → said r ≡ replied m long floor rest b c → b' ≡ next m long floor rest b c
-      → Going i b replies → Going (i + 1) b' (set replies i r)
-  goes_on i b b' replies c r h hr is tells leaves g =
-      let rest_of = drop (i + 1) calls in
-      let read : drop i calls ≡ c ∷ rest_of = at_drop_more (λ cs. cs) calls i c h ∙ ap (λ x. x ∷ rest_of) (sym is) in
+  pub goes_on : (long' : Lengths) (i : ℕ) (b b' : Board W) (replies : List (Reply W)) (c : Call G) (r : Reply W) → i < length calls → i < length replies → c ≡ get_or calls i c
+      → long' ≡ long → answer r ≡ replied m long' floor rest b c → b' ≡ next m long' floor rest b c → Going i b replies → Going (i + 1) b' (set replies i r)
+  goes_on long' i b b' replies c r h k is same tells leaves g =
+      let f = fold_more (next m long floor rest) b₀ calls i c h in
+      let s = scan_more (next m long floor rest) (replied m long floor rest) b₀ calls i c h in
+      let e = g.board in
+      let t = g.told in
       record {
-        board = ap (λ z. board_after m long floor rest z rest_of) leaves ∙ ap (board_after m long floor rest b) (sym read) ∙ g.board;
-        told =
-            ap (λ l. map said l ++ replies_to m long floor rest b' rest_of) (take_more_set replies i r hr)
-            ∙ ap (λ l. l ++ replies_to m long floor rest b' rest_of) (map-append said (take i replies) (r ∷ []))
-            ∙ append_assoc (map said (take i replies)) (said r ∷ []) (replies_to m long floor rest b' rest_of)
-            ∙ ap (λ a. map said (take i replies) ++ (a ∷ replies_to m long floor rest b' rest_of)) tells
-            ∙ ap (λ z. map said (take i replies) ++ (replied m long floor rest b c ∷ replies_to m long floor rest z rest_of)) leaves
-            ∙ ap (λ l. map said (take i replies) ++ replies_to m long floor rest b l) (sym read)
-            ∙ g.told;
+        board = cc;
+        told = ap (map answer) (take_more_set replies i r k) ∙ map-append answer (take i replies) (r ∷ []) ∙ cc;
         beyond = drop-set-lt (i + 1) replies i r (omega arith) ∙ sym (drop-drop 1 i replies) ∙ ap (drop 1) g.beyond ∙ drop-drop 1 i before;
-        size = length-set replies i r ∙ g.size;
       }
 
-  pub board_done : (i : ℕ) (b : Board W) (replies : List (Reply W)) → length calls ≤ i → Going i b replies → b ≡ board_after m long floor rest b₀ calls
-  board_done i b replies h g = sym (at_drop_all (board_after m long floor rest b) calls i h) ∙ g.board
-
-  pub written_done : (i : ℕ) (b : Board W) (replies : List (Reply W)) → i ≡ length calls → Going i b replies → Written before replies (replies_to m long floor rest b₀ calls)
-  written_done i b replies e g =
-      let n : length (replies_to m long floor rest b₀ calls) ≡ i = replies_length m long floor rest b₀ calls ∙ sym e in
-      record {
-        told =
-            ap (λ (k : ℕ). map said (take k replies)) n
-            ∙ sym (append-nil (map said (take i replies)))
-            ∙ ap (λ l. map said (take i replies) ++ l) (sym (at_drop_all (replies_to m long floor rest b) calls i (omega (arith, e))))
-            ∙ g.told;
-        beyond = ap (λ (k : ℕ). drop k replies) n ∙ g.beyond ∙ ap (λ (k : ℕ). drop k before) (sym n);
-        long = g.size;
-      }
-
--- the same where the lengths are known to be what they were
-pub replied_at : {W G : Type 0} (m : Ops W) (long long' : Lengths) (floor rest : G → ℕ → W) (b : Board W) (c : Call G) (a : Answer (Given W)) → long' ≡ long
-    → a ≡ replied m long' floor rest b c → a ≡ replied m long floor rest b c
-replied_at m long long' floor rest b c a e h = h ∙ ap (λ l. replied m l floor rest b c) e
-
-pub next_at : {W G : Type 0} (m : Ops W) (long long' : Lengths) (floor rest : G → ℕ → W) (b b' : Board W) (c : Call G) → long' ≡ long
-    → b' ≡ next m long' floor rest b c → b' ≡ next m long floor rest b c
-next_at m long long' floor rest b b' c e h = h ∙ ap (λ l. next m l floor rest b c) e
-
-pub lengths_are : (a b c d e a' b' c' d' e' : ℕ) → a ≡ a' → b ≡ b' → c ≡ c' → d ≡ d' → e ≡ e'
-    → ◌≡◌ {A = Lengths} (record { weights = a; reasons = b; line = c; queue = d; work = e }) (record { weights = a'; reasons = b'; line = c'; queue = d'; work = e' })
-lengths_are a b c d e a' b' c' d' e' p q r s t =
-    ap (λ (n : ℕ). record { weights = n; reasons = b; line = c; queue = d; work = e }) p
-    ∙ ap (λ (n : ℕ). record { weights = a'; reasons = n; line = c; queue = d; work = e }) q
-    ∙ ap (λ (n : ℕ). record { weights = a'; reasons = b'; line = n; queue = d; work = e }) r
-    ∙ ap (λ (n : ℕ). record { weights = a'; reasons = b'; line = c'; queue = n; work = e }) s
-    ∙ ap (λ (n : ℕ). record { weights = a'; reasons = b'; line = c'; queue = d'; work = n }) t
+  -- all are made
+  pub written : (i : ℕ) (b : Board W) (replies : List (Reply W)) → i ≡ length calls → length replies ≡ length before → Going i b replies
+      → Written before replies (replies_to m long floor rest b₀ calls)
+  written i b replies e long_as g =
+      let n : length (replies_to m long floor rest b₀ calls) ≡ i = length_scan _ _ b₀ calls ∙ sym e in
+      let all : take i calls ≡ calls = take_all i calls (omega (arith, e)) in
+      record { told = rw n (g.told ∙ ap (replies_to m long floor rest b₀) all); beyond = rw n g.beyond; long = long_as }

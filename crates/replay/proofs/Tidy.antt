@@ -4,10 +4,9 @@ use lib.ListN.{length-map, length-replicate}
 use Rattle.std.proofs.lemmas.List.{take_all, take_at, map-append, map-set, length-set}
 use Rattle.measure.specs.Ops.{Ops}
 use Rattle.sheet.specs.declared.rule.Rule.{Rule}
-use Rattle.sheet.specs.declared.slot.Slot.{Slot}
-use Rattle.sheet.specs.declared.slot.Slot.TheVariants.{Empty, Full}
+use Rattle.sheet.specs.Slots.{Slot, used, fulls, empties, count, free, front, sheet, rule_at}
+use Rattle.std.specs.Prelude.{None, Some}
 use Rattle.sheet.specs.Rules.{Inference, body_of, read, made}
-use Rattle.sheet.specs.Slots.{used, fulls, empties, count, free, front, sheet, rule_at}
 use Rattle.sheet.specs.Edits.{repriced}
 use Rattle.guide.specs.Weighted.{weigh, weighted}
 use Rattle.abstraction.proofs.Reading.{made_body}
@@ -16,43 +15,34 @@ use Rattle.replay.specs.Run.{shown}
 
 -- rules, and then so many empty slots
 abbrev pub laid : List Rule → ℕ → List Slot
-laid rs k = map Full rs ++ replicate k Empty
-
-fulls_none : (k : ℕ) → fulls (replicate k Empty) ≡ 0
-fulls_none zero = refl
-fulls_none (suc k) = refl
+laid rs k = map Some rs ++ replicate k None
 
 fulls_laid : (rs : List Rule) (k : ℕ) → fulls (laid rs k) ≡ length rs
-fulls_laid [] k = fulls_none k
+fulls_laid [] zero = refl
+fulls_laid [] (suc k) = refl
 fulls_laid (r ∷ rs) k = let e = fulls_laid rs k in omega arith
 
-empties_none : (k : ℕ) → empties (replicate k Empty) ≡ k
-empties_none zero = refl
-empties_none (suc k) = let e = empties_none k in omega arith
-
 empties_laid : (rs : List Rule) (k : ℕ) → empties (laid rs k) ≡ k
-empties_laid [] k = empties_none k
+empties_laid [] zero = refl
+empties_laid [] (suc k) = let e = empties_laid [] k in omega arith
 empties_laid (r ∷ rs) k = empties_laid rs k
 
-front_none : (k : ℕ) → front (replicate k Empty) ≡ []
-front_none zero = refl
-front_none (suc k) = refl
-
 front_laid : (rs : List Rule) (k : ℕ) → front (laid rs k) ≡ map read rs
-front_laid [] k = front_none k
+front_laid [] zero = refl
+front_laid [] (suc k) = refl
 front_laid (r ∷ rs) k = ap (λ l. read r ∷ l) (front_laid rs k)
 
 length_laid : (rs : List Rule) (k : ℕ) → length (laid rs k) ≡ length rs + k
-length_laid rs k = omega (arith, length-append (map Full rs) (replicate k Empty), length-map rs Full, length-replicate k Empty)
+length_laid rs k = omega (arith, length-append (map Some rs) (replicate k None), length-map rs Some, length-replicate {A = Slot} k None)
 
-set_next : (rs : List Rule) (k : ℕ) (r : Rule) → set (laid rs (suc k)) (length rs) (Full r) ≡ laid (rs ++ r ∷ []) k
+set_next : (rs : List Rule) (k : ℕ) (r : Rule) → set (laid rs (suc k)) (length rs) (Some r) ≡ laid (rs ++ r ∷ []) k
 set_next [] k r = refl
-set_next (q ∷ rs) k r = ap (λ l. Full q ∷ l) (set_next rs k r)
+set_next (q ∷ rs) k r = ap (λ l. Some q ∷ l) (set_next rs k r)
 
-set_laid : (rs : List Rule) (k i : ℕ) (r : Rule) → i < length rs → set (laid rs k) i (Full r) ≡ laid (set rs i r) k
+set_laid : (rs : List Rule) (k i : ℕ) (r : Rule) → i < length rs → set (laid rs k) i (Some r) ≡ laid (set rs i r) k
 set_laid [] k i r h = absurd (omega arith)
 set_laid (q ∷ rs) k zero r h = refl
-set_laid (q ∷ rs) k (suc i) r h = ap (λ l. Full q ∷ l) (set_laid rs k i r (omega arith))
+set_laid (q ∷ rs) k (suc i) r h = ap (λ l. Some q ∷ l) (set_laid rs k i r (omega arith))
 
 -- the rule of a number, as it is read; beyond the rules there is none
 read_laid : (rs : List Rule) (k i : ℕ) → i < length rs → read (rule_at (laid rs k) i) ≡ inference_at (map read rs) i
@@ -112,22 +102,22 @@ module _ (n : ℕ) (few : n ≤ 16000) where
         let k : i < length t.records = omega (arith, length_rules) in
         ap (λ l. read (rule_at l i)) t.are ∙ read_laid t.records t.left i k ∙ ap (λ l. inference_at l i) t.reads
 
-    pub tidy_shown : shown xs ≡ map Full t.records
+    pub tidy_shown : shown xs ≡ map Some t.records
     tidy_shown =
-        let e : count xs ≡ length (map Full t.records) = tidy_count ∙ length_rules ∙ sym (length-map t.records Full) in
-        ap (λ l. take (count xs) l) t.are ∙ take_at (map Full t.records) (replicate t.left Empty) (count xs) (sym e)
+        let e : count xs ≡ length (map Some t.records) = tidy_count ∙ length_rules ∙ sym (length-map t.records Some) in
+        ap (λ l. take (count xs) l) t.are ∙ take_at (map Some t.records) (replicate t.left None) (count xs) (sym e)
 
     -- the weighted rules that a passed view gives
     pub tidy_weighted : {W : Type 0} (m : Ops W) → weighted m (shown xs) ≡ map (weighing m) rs
     tidy_weighted m = ap (weighted m) tidy_shown ∙ weighed t.records ∙ ap (map (weighing m)) t.reads
       where
-        weighed : (qs : List Rule) → weighted m (map Full qs) ≡ map (weighing m) (map read qs)
+        weighed : (qs : List Rule) → weighted m (map Some qs) ≡ map (weighing m) (map read qs)
         weighed [] = refl
-        weighed (q ∷ qs) = ap (λ l. weigh m (Full q) ∷ l) (weighed qs)
+        weighed (q ∷ qs) = ap (λ l. weigh m (Some q) ∷ l) (weighed qs)
 
     -- what edits make of a tidy column
     pub tidy_enter : (h : ℕ) (b : List ℕ) (c : ℕ) → length b ≤ 4 → c ≤ 1000000 → length rs < n
-        → Tidy (rs ++ record { head = h; body = b; cost = c; struck = false } ∷ []) (set xs (count xs) (Full (made h b c)))
+        → Tidy (rs ++ record { head = h; body = b; cost = c; struck = false } ∷ []) (set xs (count xs) (Some (made h b c)))
     tidy_enter h b c short cheap room =
         let k : t.left ≡ suc (t.left - 1) = omega (arith, t.size, length_rules) in
         let e : count xs ≡ length t.records = tidy_count ∙ length_rules in
@@ -135,8 +125,8 @@ module _ (n : ℕ) (few : n ≤ 16000) where
           records = t.records ++ made h b c ∷ [];
           left = t.left - 1;
           are =
-              ap (λ (i : ℕ). set xs i (Full (made h b c))) e
-              ∙ ap (λ l. set l (length t.records) (Full (made h b c))) (t.are ∙ ap (laid t.records) k)
+              ap (λ (i : ℕ). set xs i (Some (made h b c))) e
+              ∙ ap (λ l. set l (length t.records) (Some (made h b c))) (t.are ∙ ap (laid t.records) k)
               ∙ set_next t.records (t.left - 1) (made h b c);
           size = let z = length-append t.records (made h b c ∷ []) in omega (arith, z, k, t.size);
           reads =
@@ -145,16 +135,16 @@ module _ (n : ℕ) (few : n ≤ 16000) where
               ∙ ap (λ a. rs ++ a ∷ []) (read_made h b c short cheap);
         }
 
-    pub tidy_change : (i : ℕ) (r : Rule) (a : Inference) → i < length rs → read r ≡ a → Tidy (set rs i a) (set xs i (Full r))
+    pub tidy_change : (i : ℕ) (r : Rule) (a : Inference) → i < length rs → read r ≡ a → Tidy (set rs i a) (set xs i (Some r))
     tidy_change i r a h e =
         let k : i < length t.records = omega (arith, length_rules) in
         record {
           records = set t.records i r;
           left = t.left;
-          are = ap (λ l. set l i (Full r)) t.are ∙ set_laid t.records t.left i r k;
+          are = ap (λ l. set l i (Some r)) t.are ∙ set_laid t.records t.left i r k;
           size = let z = length-set t.records i r in omega (arith, z, t.size);
           reads = map-set read t.records i r ∙ ap (λ l. set l i (read r)) t.reads ∙ ap (set rs i) e;
         }
 
-  pub tidy_new : Tidy [] (replicate n Empty)
+  pub tidy_new : Tidy [] (replicate n None)
   tidy_new = record { records = []; left = n; are = refl; size = omega arith; reads = refl }

@@ -1,5 +1,6 @@
 -- The rules that a list of calls leaves on a new sheet, by the list and the number of slots alone.
 use Rattle.std.specs.Prelude.{ℕ, Bool, true, false, cond, not, ◌&&◌, List, [], ◌∷◌, ◌++◌, map, length, nat_le, nat_lt, slice_index_or, slice_set}
+use Rattle.std.specs.List.{fold}
 use Rattle.measure.specs.Ops.{Ops, cost_limit}
 use Rattle.sheet.specs.Rules.{Inference, body_limit}
 use Rattle.derivation.specs.Rules.{Rule}
@@ -22,10 +23,10 @@ allowed n rs (Strike k) = stands rs k
 allowed n rs (Search f t g) = false
 
 abbrev pub priced : Inference → ℕ → Inference
-priced a c = record { head = a.head; body = a.body; cost = c; struck = a.struck }
+priced a c = record a { cost = c }
 
 abbrev pub stricken : Inference → Inference
-stricken a = record { head = a.head; body = a.body; cost = a.cost; struck = true }
+stricken a = record a { struck = true }
 
 -- What an accepted edit makes of the rules: one more at the end, another cost, or a mark.
 abbrev pub edited : {G : Type 0} → Call G → List Inference → List Inference
@@ -34,10 +35,13 @@ edited (Reprice k c) rs = slice_set rs k (priced (inference_at rs k) c)
 edited (Strike k) rs = slice_set rs k (stricken (inference_at rs k))
 edited (Search f t g) rs = rs
 
--- The rules after a list of calls that finds the rules rs: each accepted edit changes them, and nothing else does.
+-- The rules after a call: an accepted edit changes them, and nothing else does.
+abbrev pub rules_next : {G : Type 0} → ℕ → List Inference → Call G → List Inference
+rules_next n rs c = cond (allowed n rs c) (edited c rs) rs
+
+-- The rules after a list of calls that finds the rules rs.
 abbrev pub rules_from : {G : Type 0} → ℕ → List Inference → List (Call G) → List Inference
-rules_from n rs [] = rs
-rules_from n rs (c ∷ cs) = rules_from n (cond (allowed n rs c) (edited c rs) rs) cs
+rules_from n rs cs = fold (rules_next n) rs cs
 
 -- The rules after a list of calls on a new sheet of n slots.
 abbrev pub rules_after : {G : Type 0} → ℕ → List (Call G) → List Inference

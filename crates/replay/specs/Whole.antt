@@ -1,5 +1,6 @@
 -- The whole promise, over the rules that a list of calls leaves, in the words of derivations.
-use Rattle.std.specs.Prelude.{◌≡◌, ℕ, ◌<◌, ◌≤◌, false, List, [], ◌∷◌, ◌++◌, length, slice_index}
+use Rattle.std.specs.Prelude.{◌≡◌, ℕ, ◌<◌, ◌≤◌, false, List, ◌++◌, length, slice_index}
+use Rattle.std.specs.List.{AllByRecursion}
 use Rattle.measure.specs.Ops.{Ops}
 use Rattle.sheet.specs.Refusals.{Answer, accepted, refused, Told}
 use Rattle.sheet.specs.Rules.{Inference}
@@ -39,8 +40,7 @@ pub record Same {W : Type 0} (a b : Answer (Found W)) : Type 0 where
 
 -- None of the calls is an accepted edit where the rules are rs and there are n slots.
 abbrev pub Unedited : {G : Type 0} → ℕ → List Inference → List (Call G) → Type 0
-Unedited n rs [] = Unit {0}
-Unedited n rs (c ∷ cs) = (allowed n rs c ≡ false) × Unedited n rs cs
+Unedited n rs cs = AllByRecursion (λ c. allowed n rs c ≡ false) cs
 
 -- What is promised of a search that ends a list of calls on a new sheet of n slots.
 pub record Whole {W G : Type 0} (m : Ops W) (n : ℕ) (calls : List (Call G)) (rest : ℕ → W) (facts target : ℕ) (a : Answer (Found W)) (weights : List W) (reasons line : List ℕ) : Type 0 where

@@ -24,15 +24,16 @@ pub enum Call<'a, G> {
     },
 }
 
-// The reply to a call. W is the measure of its searches.
+// What an accepted call gives. W is the measure of its searches.
 #[derive(Clone, Copy)]
-pub enum Reply<W> {
+pub enum Done<W> {
     // a rule was entered under this number
     Entered(u16),
     // a rule was repriced or struck
     Changed,
     // a target was found
     Found(Found<W>),
-    // the call was refused
-    Refused(Refusal),
 }
+
+// The reply to a call.
+pub type Reply<W> = Result<Done<W>, Refusal>;

@@ -6,10 +6,10 @@ use Rattle.std.proofs.lemmas.List.FromFn.{fill_by_all}
 use Rattle.std.proofs.lemmas.List.{length-reverse, length-map}
 use Rattle.std.proofs.ByRecursion.{All-push, All-map, All-weaker}
 use Rattle.measure.specs.Ops.{Ops}
-use Rattle.sheet.specs.declared.slot.Slot.{Slot}
+use Rattle.sheet.specs.Slots.{Slot}
 use Rattle.sheet.specs.declared.refusal.Refusal.{Refusal}
 use Rattle.sheet.specs.declared.refusal.Refusal.TheVariants.{OutOfReach}
-use Rattle.sheet.specs.Refusals.{accepted, refused, number, told}
+use Rattle.sheet.specs.Refusals.{accepted}
 use Rattle.sheet.specs.Rules.{body_of}
 use Rattle.sheet.specs.Slots.{rule_at}
 use Rattle.derivation.specs.Search.{Closed, State, no_reason, is_closed, weight_in, weight_of, reason_of, closed_count, taken_count, answer as found_weight}
@@ -61,14 +61,6 @@ module _ {W : Type 0} (m : Ops W) (xs : List Slot) where
 
 -- What the main loop's answer tells.
 module _ {W : Type 0} (m : Ops W) (s : State W) (target : ℕ) where
-  pub told_out : (l : List ℕ) (e : Refusal) → Err e ≡ run_answer (Some target) s → refused (number e) (told e) ≡ told_found l s (found_weight m target s)
-  told_out l e h = go (is_closed s.closed target) h
-    where
-      go : (b : Bool) → ◌≡◌ {A = Result Counts Refusal} (Err e) (cond b (Ok (record { closed = closed_count s; taken = taken_count s })) (Err (OutOfReach (closed_count s) (taken_count s))))
-          → refused (number e) (told e) ≡ told_found l s (cond b (Some (weight_in m s.closed target)) None)
-      go true k = let z : ◌≡◌ {A = ℕ} 0 1 = cc in absurd (omega arith)
-      go false k = let z : e ≡ OutOfReach (closed_count s) (taken_count s) = cc in rw z
-
   pub record Reached (k : Counts) : Type 0 where
     pub closed_is : k.closed ≡ closed_count s
     pub taken_is : k.taken ≡ taken_count s

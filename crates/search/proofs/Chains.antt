@@ -2,11 +2,10 @@
 use Rattle.std.proofs.Common.{◌≡◌, ℕ, zero, suc, ◌+◌, ◌*◌, ◌/◌, ◌%◌, ◌<◌, ◌≤◌, min, Bool, true, false, cond, not, ◌&&◌, eqb, List, length, get_or, set, sym, refl, ap, ◌∙◌, subst, inl, inr, add-one, arith, length-set, length-take}
 use Rattle.std.proofs.lemmas.List.{get_or-set_same, get_or-set_other}
 use Rattle.std.proofs.lemmas.Bool.{cases_eq, eqb-true, ne_eqb, eq-eqb, both_ways, le-ltb, lt-ltb}
-use Rattle.sheet.specs.declared.slot.Slot.{Slot}
+use Rattle.sheet.specs.Slots.{Slot}
 use Rattle.sheet.specs.declared.rule.Rule.{Rule}
 use Rattle.sheet.specs.Rules.{body_of}
-use Rattle.sheet.specs.Slots.{rule_at, passes}
-use Rattle.sheet.proofs.Within.{below_at, passes_at, within_parts}
+use Rattle.sheet.specs.Slots.{rule_at}
 use Rattle.search.specs.Chains.{names, holds, last_below, Chained}
 
 pub rule_of_place : (r i : ℕ) → i < 4 → (4 * r + i) / 4 ≡ r
@@ -79,11 +78,6 @@ body_bound r = omega (arith, length-take (min r.arity 4) r.body)
 -- a place of a standing rule, with the rule and its body as the code has them
 module _ (xs : List Slot) (r i : ℕ) (rule : Rule) (body : List ℕ)
     (is : rule ≡ rule_at xs r) (stands : rule.struck ≡ false) (whole : body ≡ body_of rule) (h : i < length body) where
-  pub place_within : (n : ℕ) → passes n xs ≡ true → r < length xs → get_or body i 0 < n
-  place_within n p l =
-      let w = (within_parts n rule (rw is (passes_at n xs r p l).1) stands).1 in
-      below_at n body i (rw whole w) h
-
   pub place_holds : (f : ℕ) → holds xs f (4 * r + i) ≡ eqb (get_or body i 0) f
   place_holds f =
       let l : i < length (body_of rule) = rw whole at h in

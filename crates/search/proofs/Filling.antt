@@ -1,11 +1,13 @@
 -- Putting an entry into a filled queue, and taking one out.
-use Rattle.std.proofs.Common.{◌≡◌, ℕ, ◌+◌, ◌-◌, ◌<◌, ◌≤◌, Bool, true, false, cond, not, ◌&&◌, ◌||◌, eqb, List, [], ◌∷◌, take, count_by, sym, refl, ap, ◌∙◌, inl, inr, arith}
+use Rattle.std.proofs.Common.{◌≡◌, ℕ, ◌+◌, ◌-◌, ◌<◌, ◌≤◌, Bool, true, false, cond, not, ◌&&◌, ◌||◌, eqb, List, [], ◌∷◌, length, take, count_by, Ok, Err, Result, sym, refl, ap, ◌∙◌, inl, inr, arith}
 use Rattle.std.specs.List.{AllByRecursion}
 use Rattle.std.proofs.lemmas.List.Sums.{sum_by-cons}
 use Rattle.std.proofs.lemmas.List.Sorted.{sum_by-IsPermutation}
 use Rattle.std.proofs.ByRecursion.{all_shuffled}
 use Rattle.std.proofs.lemmas.Bool.{cases_Bool, eqb-true, eq-eqb}
 use Rattle.measure.specs.Ops.{Ops}
+use Rattle.std.specs.Prelude.{MatchResult, IsOk}
+use Rattle.queue.specs.declared.heap.Full.{Full}
 use Rattle.queue.specs.declared.entry.Entry.{Entry}
 use Rattle.queue.specs.Entry.{entry_leb}
 use Rattle.queue.specs.Heap.{Added, Removed}
@@ -14,6 +16,18 @@ use Rattle.search.specs.Waiting.{Filled}
 -- 1 for true, 0 for false
 abbrev pub bit : Bool → ℕ
 bit b = cond b 1 0
+
+-- where there is room, an element is put in
+pub was_added : {U W : Type 0} (m : Ops W) (xs ys : List (Entry W)) (count n : ℕ) (x : Entry W) (r : Result U Full) → count < length xs
+    → MatchResult r (λ _. Added (entry_leb m) xs count x ys n) (λ _. (length xs ≤ count) × (ys ≡ xs) × (n ≡ count))
+    → Added (entry_leb m) xs count x ys n
+was_added m xs ys count n x (Ok u) room h = h
+was_added m xs ys count n x (Err e) room h = absurd (omega (arith, room, h.0))
+
+pub put_is_ok : {U W : Type 0} (m : Ops W) (xs ys : List (Entry W)) (count n : ℕ) (x : Entry W) (r : Result U Full) → count < length xs
+    → MatchResult r (λ _. Added (entry_leb m) xs count x ys n) (λ _. (length xs ≤ count) × (ys ≡ xs) × (n ≡ count)) → IsOk r
+put_is_ok m xs ys count n x (Ok u) room h = refl
+put_is_ok m xs ys count n x (Err e) room h = absurd (omega (arith, room, h.0))
 
 -- a list with an entry of rule r among its elements
 pub has_rule : {W : Type 0} (P : Entry W → Type 0) (r : ℕ) (es : List (Entry W)) → AllByRecursion P es → 0 < count_by (λ e. eqb e.rule r) es → (e : Entry W) × P e × (e.rule ≡ r)
@@ -30,10 +44,6 @@ has_rule P r (e ∷ es) all h =
 cond_flag : (b : Bool) → bit b ≡ 1 → b ≡ true
 cond_flag true h = refl
 cond_flag false h = absurd (omega arith)
-
-cond_not : (b : Bool) → bit b ≡ 0 → b ≡ false
-cond_not true h = absurd (omega arith)
-cond_not false h = refl
 
 module _ {W : Type 0} (m : Ops W) (of : ℕ → Entry W) where
   pub filled_same : (flag flag' : ℕ → Bool) (queue : List (Entry W)) (count : ℕ) → ((r : ℕ) → flag' r ≡ flag r)

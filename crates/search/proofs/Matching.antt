@@ -7,8 +7,8 @@ use Rattle.std.proofs.lemmas.Bool.{cases_Bool, both_ways, eq-eqb, lt-ltb, le-ltb
 use Rattle.measure.specs.Ops.{Ops}
 use Rattle.queue.specs.declared.entry.Entry.{Entry}
 use Rattle.sheet.specs.declared.rule.Rule as sheet_rule
-use Rattle.sheet.specs.declared.slot.Slot.{Slot}
-use Rattle.sheet.specs.declared.slot.Slot.TheVariants.{Empty, Full}
+use Rattle.sheet.specs.Slots.{Slot}
+use Rattle.std.specs.Prelude.{None, Some}
 use Rattle.sheet.specs.Rules.{body_of, read}
 use Rattle.sheet.specs.Slots.{rule_in, rule_at, passes}
 use Rattle.sheet.proofs.Within.{passes_at}
@@ -23,31 +23,31 @@ use Rattle.search.specs.Shown.{unclosed, open_places}
 use Rattle.search.proofs.Opening.{none_unclosed}
 
 module _ {W : Type 0} (m : Ops W) where
-  pub weighted_at : (xs : List Slot) (r : ℕ) → theory.rule_at m (weighted m xs) r ≡ weigh m (get_or xs r Empty)
+  pub weighted_at : (xs : List Slot) (r : ℕ) → theory.rule_at m (weighted m xs) r ≡ weigh m (get_or xs r None)
   weighted_at [] r = refl
   weighted_at (x ∷ xs) zero = refl
   weighted_at (x ∷ xs) (suc r) = weighted_at xs r
 
   weigh_head : (x : Slot) → (weigh m x).head ≡ (rule_in x).head
-  weigh_head Empty = refl
-  weigh_head (Full r) = refl
+  weigh_head None = refl
+  weigh_head (Some r) = refl
 
   weigh_body : (x : Slot) → (weigh m x).body ≡ body_of (rule_in x)
-  weigh_body Empty = refl
-  weigh_body (Full r) = refl
+  weigh_body None = refl
+  weigh_body (Some r) = refl
 
   weigh_struck : (x : Slot) → (weigh m x).struck ≡ (rule_in x).struck
-  weigh_struck Empty = refl
-  weigh_struck (Full r) = refl
+  weigh_struck None = refl
+  weigh_struck (Some r) = refl
 
   pub head_is : (xs : List Slot) (r : ℕ) → (theory.rule_at m (weighted m xs) r).head ≡ (rule_at xs r).head
-  head_is xs r = ap (λ (a : theory.Rule W). a.head) (weighted_at xs r) ∙ weigh_head (get_or xs r Empty)
+  head_is xs r = ap (λ (a : theory.Rule W). a.head) (weighted_at xs r) ∙ weigh_head (get_or xs r None)
 
   pub body_is : (xs : List Slot) (r : ℕ) → (theory.rule_at m (weighted m xs) r).body ≡ body_of (rule_at xs r)
-  body_is xs r = ap (λ (a : theory.Rule W). a.body) (weighted_at xs r) ∙ weigh_body (get_or xs r Empty)
+  body_is xs r = ap (λ (a : theory.Rule W). a.body) (weighted_at xs r) ∙ weigh_body (get_or xs r None)
 
   pub struck_is : (xs : List Slot) (r : ℕ) → (theory.rule_at m (weighted m xs) r).struck ≡ (rule_at xs r).struck
-  struck_is xs r = ap (λ (a : theory.Rule W). a.struck) (weighted_at xs r) ∙ weigh_struck (get_or xs r Empty)
+  struck_is xs r = ap (λ (a : theory.Rule W). a.struck) (weighted_at xs r) ∙ weigh_struck (get_or xs r None)
 
   pub length_weighted : (xs : List Slot) → length (weighted m xs) ≡ length xs
   length_weighted [] = refl
@@ -67,7 +67,7 @@ module _ {W : Type 0} (m : Ops W) where
       (elim (cases_lt r (length missing)) [
         | inl h ↦ rw (lt-ltb r (length missing) h) (one (rule_at xs r).struck)
         | inr h ↦ (
-            let e : (rule_at xs r).struck ≡ true = ap (λ z. (rule_in z).struck) (get_or_past xs r Empty (omega (arith, l))) in
+            let e : (rule_at xs r).struck ≡ true = ap (λ z. (rule_in z).struck) (get_or_past xs r None (omega (arith, l))) in
             rw (e, le-ltb r (length missing) h))
       ])
     where
@@ -82,7 +82,7 @@ module _ {W : Type 0} (m : Ops W) where
       → entry m (weighted m xs) rest cs r ≡ entry_at m rest xs ws r
   unfolding entry rule_entry rule_weight
   entry_is rest xs cs ws r n p h same =
-      let e : theory.rule_at m (weighted m xs) r ≡ weigh m (Full (rule_at xs r)) = weighted_at xs r ∙ ap (weigh m) (passes_at n xs r p h).0 in
+      let e : theory.rule_at m (weighted m xs) r ≡ weigh m (Some (rule_at xs r)) = weighted_at xs r ∙ ap (weigh m) (passes_at n xs r p h).0 in
       rw (e, map_same (weight_in m cs) (held m ws) (λ f. sym (same f)) (body_of (rule_at xs r)))
 
   -- closing f keeps the entry of a rule whose body is closed

@@ -3,8 +3,8 @@ use Rattle.std.proofs.Common.{◌≡◌, ℕ, zero, suc, ◌+◌, ◌*◌, ◌<�
 use Rattle.std.proofs.lemmas.List.{get_or_past}
 use Rattle.std.proofs.lemmas.Bool.{cases_eq, both_ways, eqb-true, eq-eqb, ne_eqb, cases_lt}
 use Rattle.sheet.specs.declared.rule.Rule.{Rule}
-use Rattle.sheet.specs.declared.slot.Slot.{Slot}
-use Rattle.sheet.specs.declared.slot.Slot.TheVariants.{Empty}
+use Rattle.sheet.specs.Slots.{Slot}
+use Rattle.std.specs.Prelude.{None}
 use Rattle.sheet.specs.Rules.{body_of}
 use Rattle.sheet.specs.Slots.{rule_at, rule_in}
 use Rattle.derivation.specs.Search.{Closed, is_closed, all_closed}
@@ -116,7 +116,7 @@ module _ (xs : List Slot) (f r : ℕ) where
   uses_whole =
       elim (cases_lt r (length xs)) [
         | inl h ↦ uses_after (length xs) h
-        | inr h ↦ uses_before (length xs) h ∙ sym (ap (λ z. mentions (rule_in z) f) (get_or_past xs r Empty h))
+        | inr h ↦ uses_before (length xs) h ∙ sym (ap (λ z. mentions (rule_in z) f) (get_or_past xs r None h))
       ]
 
 -- closing a fact, for a whole rule

@@ -1,12 +1,11 @@
 -- The promise follows from the definition and the theory.
-use Rattle.std.proofs.Common.{◌≡◌, ℕ, ◌<◌, ◌≤◌, Bool, true, false, cond, ◌&&◌, ltb, List, [], ◌++◌, length, get_or, take, drop, is_ok, Some, None, Ok, Err, Option, Result, sym, refl, ap, ◌∙◌, subst, inl, inr, arith}
+use Rattle.std.proofs.Common.{◌≡◌, ℕ, ◌<◌, ◌≤◌, Bool, true, false, cond, ◌&&◌, ltb, List, [], ◌++◌, length, get_or, take, drop, Some, None, Option, sym, refl, ap, ◌∙◌, subst, inl, inr, arith}
 use Rattle.std.proofs.lemmas.List.FromFn.{length-map-range_with_len, get_or-map-range_with_len}
 use Rattle.std.proofs.lemmas.List.{get_or_append_left, take_at}
 use Rattle.std.proofs.lemmas.Bool.{cases_lt, both_ways, lt-ltb, le-ltb, cond-true, not-true}
 use Rattle.measure.specs.Ops.{Ops, Laws}
-use Rattle.sheet.specs.declared.slot.Slot.{Slot}
-use Rattle.sheet.specs.declared.refusal.Refusal.{Refusal}
-use Rattle.sheet.specs.Refusals.{Answer, accepted, refused, Told, after, answer as answer_of}
+use Rattle.sheet.specs.Slots.{Slot}
+use Rattle.sheet.specs.Refusals.{Answer, accepted, refused, Told, after}
 use Rattle.sheet.specs.Slots.{passes, rule_at}
 use Rattle.sheet.proofs.Within.{passes_at, within_parts}
 use Rattle.derivation.specs.Rules as theory
@@ -190,6 +189,23 @@ module _ {W : Type 0} {m : Ops W} (laws : Laws m) (floor rest : ℕ → W) (xs :
     found = λ f e. kept_of weights reasons line f (p.found f e);
   }
 
+  -- all that a search promises follows from what it answers and leaves
+  pub promised : passes facts xs ≡ true → length xs ≤ 16000 → (a : Answer (Found W)) (long : Bool) → a ≡ search_answer m floor rest xs facts target long
+      → (weights weights₀ : List W) (reasons reasons₀ line line₀ : List ℕ)
+      → weights ≡ weights_left m rest xs facts target a weights₀ → reasons ≡ reasons_left m rest xs facts target a reasons₀ → line ≡ line_left m rest xs facts target a line₀
+      → Promise m rest xs facts target a weights reasons line
+  promised within few a long e weights weights₀ reasons reasons₀ line line₀ we re li =
+      promise_of a weights reasons line (promised_over within few a long e weights weights₀ reasons reasons₀ line line₀ we re li)
+
+-- a search that did not run promises nothing
+pub promise_of_refusal : {W : Type 0} (m : Ops W) (rest : ℕ → W) (xs : List Slot) (facts target : ℕ) (a : Answer (Found W)) (weights : List W) (reasons line : List ℕ)
+    → ran a ≡ false → Promise m rest xs facts target a weights reasons line
+promise_of_refusal m rest xs facts target a weights reasons line h = record {
+  out_of_reach = λ vs e d. both_ways _ h (ap ran e);
+  in_reach = λ r d. absurd (both_ways _ h r);
+  found = λ f e. absurd (both_ways _ h (ap ran e));
+}
+
 -- What a survey leaves, in the words of derivations.
 module _ {W : Type 0} {m : Ops W} (laws : Laws m) (xs : List Slot) (facts : ℕ) (weights weights₀ : List W)
     (is : weights ≡ column (weight_of m (explored m xs)) facts ++ drop facts weights₀) where
@@ -202,9 +218,3 @@ module _ {W : Type 0} {m : Ops W} (laws : Laws m) (xs : List Slot) (facts : ℕ)
     lightest = λ k h d. subst (Lightest m (weighted m xs) k) (sym (weight_here k h)) ((surveyed_at laws (weighted m xs) k).lightest d);
     absent = λ k h n. weight_here k h ∙ (surveyed_at laws (weighted m xs) k).absent n;
   }
-
--- an accepted survey had columns that were long enough
-pub survey_accepted : {A : Type 0} (r : Result A Refusal) (x : A) (long : Bool) → answer_of r ≡ cond long (accepted x) (refused 11 []) → is_ok r ≡ true → long ≡ true
-survey_accepted (Ok y) x true e h = refl
-survey_accepted (Ok y) x false e h = let z : ◌≡◌ {A = ℕ} 0 1 = cc in absurd (omega arith)
-survey_accepted (Err y) x long e h = absurd (both_ways _ refl h)

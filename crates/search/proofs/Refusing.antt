@@ -1,16 +1,17 @@
 -- The answers of a search, test by test, and the columns that a refusal keeps.
-use Rattle.std.proofs.Common.{◌≡◌, ℕ, ◌-◌, ◌<◌, ◌≤◌, Bool, true, false, cond, ◌&&◌, eqb, ltb, leb, List, [], ◌++◌, length, take, drop, Some, None, Option, sym, refl, ap, ◌∙◌, arith}
+use Rattle.std.proofs.Common.{◌≡◌, ℕ, ◌-◌, ◌<◌, ◌≤◌, Bool, true, false, ◌&&◌, eqb, ltb, leb, List, [], ◌++◌, length, take, drop, Some, None, Option, sym, refl, ap, ◌∙◌, arith}
 use Rattle.std.proofs.lemmas.List.{length-append, length-drop, length-take-le, drop_at}
-use Rattle.std.proofs.lemmas.Bool.{cond-true, cond-false, lt-ltb, le-ltb, ne_eqb, both_ways, and_parts, leb-true}
+use Rattle.std.proofs.lemmas.Bool.{cond-true, cond-false, lt-ltb, le-ltb, ne_eqb, both_ways, and_parts, leb-true, le-leb, lt-leb}
 use Rattle.measure.specs.Ops.{Ops}
-use Rattle.sheet.specs.declared.slot.Slot.{Slot}
+use Rattle.sheet.specs.Slots.{Slot}
 use Rattle.sheet.specs.Refusals.{Answer, accepted, refused, Told}
 use Rattle.derivation.specs.Fit.{Verdict, fits, target_fails, rule_fails, check_fit}
 use Rattle.derivation.specs.Search.{State, answer}
 use Rattle.guide.specs.Fit.{fit_answer}
 use Rattle.guide.specs.Weighted.{weighted}
 use Rattle.search.specs.declared.columns.Found.{Found}
-use Rattle.search.specs.Answered.{column, told_found, checked, end, end_line, search_answer, work_length, long_enough, ran}
+use Rattle.search.specs.Answered.{told_found, checked, end, end_line, search_answer, work_length, long_enough, ran}
+use Rattle.search.specs.Surveyed.{survey_long}
 use Rattle.search.specs.Left.{Scratch}
 
 module _ {W : Type 0} (m : Ops W) (floor rest : ℕ → W) (xs : List Slot) (facts target : ℕ) (long : Bool) where
@@ -50,12 +51,6 @@ pub told_ran : {W : Type 0} (a : Answer (Found W)) (l : List ℕ) (s : State W) 
 told_ran a l s None e = ap ran e
 told_ran a l s (Some w) e = ap ran e
 
-pub column_left : {A : Type 0} (f : ℕ → A) (b : Bool) (facts n k : ℕ) (part xs : List A) → b ≡ true → n ≡ facts → k ≡ facts → part ≡ column f k
-    → part ++ drop (n - 0) xs ≡ cond b (column f facts ++ drop facts xs) xs
-column_left f b facts n k part xs e p q h =
-    let z : n - 0 ≡ facts = omega arith in
-    ap (λ x. x ++ drop (n - 0) xs) (h ∙ ap (column f) q) ∙ ap (λ (i : ℕ). column f facts ++ drop i xs) z ∙ sym (cond-true b _ _ e)
-
 -- a part of a column, given back at another value
 pub scratch_left : {X : Type 0} (b : Bool) (n k : ℕ) (part xs : List X) → b ≡ true → k ≡ n → n ≤ length xs → length part ≡ length (take (k - 0) xs)
     → Scratch b n xs (part ++ drop (k - 0) xs)
@@ -68,22 +63,41 @@ scratch_left b n k part xs r e h l =
       kept = λ q. absurd (both_ways _ q r);
     }
 
+-- The test of lengths is the survey's, with the line's.
+module _ (f r a b c d e : ℕ) where
+  long_is : long_enough f r a b c d e ≡ (leb f c && survey_long f r a b d e)
+  long_is = shift (leb f a) (leb f b) (leb f c) (leb r d && leb (work_length f r) e)
+    where
+      and_false : (p : Bool) → false ≡ (p && false)
+      and_false true = refl
+      and_false false = refl
+
+      shift : (p q l s : Bool) → (p && (q && (l && s))) ≡ (l && (p && (q && s)))
+      shift true true l s = refl
+      shift true false l s = and_false l
+      shift false q l s = and_false l
+
+  pub line_short : c < f → long_enough f r a b c d e ≡ false
+  line_short h = long_is ∙ (rw (lt-leb f c h))
+
+  pub rest_short : survey_long f r a b d e ≡ false → long_enough f r a b c d e ≡ false
+  rest_short h = long_is ∙ (rw h (and_none (leb f c)))
+    where
+      and_none : (p : Bool) → (p && false) ≡ false
+      and_none true = refl
+      and_none false = refl
+
+  pub all_long : f ≤ c → survey_long f r a b d e ≡ true → long_enough f r a b c d e ≡ true
+  all_long l h = long_is ∙ (rw (le-leb f c l, h))
+
 -- Columns that are long enough.
-pub record Long (facts rules weights reasons lines queue work : ℕ) : Type 0 where
-  pub for_weights : facts ≤ weights
-  pub for_reasons : facts ≤ reasons
-  pub for_queue : rules ≤ queue
-  pub for_work : work_length facts rules ≤ work
+pub record Long (f r a b d e : ℕ) : Type 0 where
+  pub for_queue : r ≤ d
+  pub for_work : work_length f r ≤ e
 
-pub long_parts : (f r a b c d e : ℕ) → long_enough f r a b c d e ≡ true → Long f r a b c d e
-long_parts f r a b c d e h =
-    let p = and_parts (leb f a) (leb f b && (leb f c && (leb r d && leb (work_length f r) e))) h in
-    let q = and_parts (leb f b) (leb f c && (leb r d && leb (work_length f r) e)) p.1 in
-    let s = and_parts (leb f c) (leb r d && leb (work_length f r) e) q.1 in
-    let t = and_parts (leb r d) (leb (work_length f r) e) s.1 in
-    record { for_weights = leb-true f a p.0; for_reasons = leb-true f b q.0; for_queue = leb-true r d t.0; for_work = leb-true (work_length f r) e t.1 }
-
-pub part_length : {X : Type 0} (n k : ℕ) (xs : List X) → n ≡ k → k ≤ length xs → length (take (n - 0) xs) ≡ k
-part_length n k xs e h =
-    let z : n - 0 ≡ k = omega arith in
-    ap (λ (i : ℕ). length (take i xs)) z ∙ length-take-le k xs h
+pub long_parts : (f r a b d e : ℕ) → survey_long f r a b d e ≡ true → Long f r a b d e
+long_parts f r a b d e h =
+    let p = and_parts (leb f a) (leb f b && (leb r d && leb (work_length f r) e)) h in
+    let q = and_parts (leb f b) (leb r d && leb (work_length f r) e) p.1 in
+    let s = and_parts (leb r d) (leb (work_length f r) e) q.1 in
+    record { for_queue = leb-true r d s.0; for_work = leb-true (work_length f r) e s.1 }

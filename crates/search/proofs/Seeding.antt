@@ -6,7 +6,7 @@ use Rattle.measure.specs.Ops.{Ops}
 use Rattle.queue.specs.declared.entry.Entry.{Entry}
 use Rattle.queue.specs.Entry.{entry_leb}
 use Rattle.queue.specs.Heap.{Added}
-use Rattle.sheet.specs.declared.slot.Slot.{Slot}
+use Rattle.sheet.specs.Slots.{Slot}
 use Rattle.search.specs.Waiting.{unready, waiting, Filled}
 use Rattle.search.proofs.Filling.{bit, filled_same, filled_put}
 use Rattle.search.proofs.Waiting.{waiting_parts}

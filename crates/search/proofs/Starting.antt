@@ -1,21 +1,18 @@
 -- The start of a search: nothing is closed, and every place is open.
-use Rattle.std.proofs.Common.{◌≡◌, ℕ, zero, suc, ◌+◌, ◌<◌, cond, eqb, List, [], ◌∷◌, ◌++◌, length, get_or, take, set, replicate, count_by, sym, refl, ap, ◌∙◌, inl, inr, arith}
-use Rattle.std.proofs.lemmas.List.{get_or_past, take_more_set, length-replicate, replicate-append-replicate}
+use Rattle.std.proofs.Common.{◌≡◌, ℕ, zero, suc, ◌<◌, cond, eqb, List, [], ◌∷◌, length, get_or, replicate, count_by, sym, refl, ap, ◌∙◌, inl, inr, arith}
+use Rattle.std.proofs.lemmas.List.{get_or_past, length-replicate}
 use Rattle.std.proofs.lemmas.List.Sums.{sum_by-cons}
 use Rattle.std.proofs.lemmas.Bool.{cases_lt, eq-eqb}
 use Rattle.measure.specs.Ops.{Ops}
 use Rattle.sheet.specs.declared.rule.Rule.{Rule}
-use Rattle.sheet.specs.declared.slot.Slot.{Slot}
-use Rattle.sheet.specs.declared.slot.Slot.TheVariants.{Empty}
+use Rattle.sheet.specs.Slots.{Slot}
+use Rattle.std.specs.Prelude.{None}
 use Rattle.sheet.specs.Rules.{body_of}
 use Rattle.sheet.specs.Slots.{rule_at, rule_in}
 use Rattle.derivation.specs.Search.{start, no_reason}
 use Rattle.search.specs.Waiting.{arity}
 use Rattle.search.specs.Shown.{unclosed, open_places, Shows, Running}
 use Rattle.search.proofs.Filling.{bit}
-
-pub replicate_more : {A : Type 0} (xs : List A) (i : ℕ) (y : A) → i < length xs → take i xs ≡ replicate i y → take (i + 1) (set xs i y) ≡ replicate (i + 1) y
-replicate_more xs i y h e = take_more_set xs i y h ∙ ap (λ l. l ++ (y ∷ [])) e ∙ replicate-append-replicate i 1 y
 
 pub get_or_same : {A : Type 0} (n f : ℕ) (a : A) → get_or (replicate n a) f a ≡ a
 get_or_same zero f a = refl
@@ -43,7 +40,7 @@ module _ (W : Type 0) where
   running_start xs reasons missing n e l m = record {
     missing_at = λ r. elim (cases_lt r (length xs)) [
       | inl h ↦ m r h ∙ open_first (rule_at xs r)
-      | inr h ↦ get_or_past missing r 0 (omega (arith, l, h)) ∙ sym (ap (λ z. open_places {W = W} [] (rule_in z)) (get_or_past xs r Empty h))
+      | inr h ↦ get_or_past missing r 0 (omega (arith, l, h)) ∙ sym (ap (λ z. open_places {W = W} [] (rule_in z)) (get_or_past xs r None h))
     ];
     closed_at = λ f. refl;
     free = rw e (let a = all_none n in let b = length-replicate {A = ℕ} n no_reason in omega (arith, a, b));

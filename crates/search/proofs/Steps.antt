@@ -3,12 +3,12 @@ use Rattle.std.proofs.Common.{◌≡◌, ℕ, suc, ◌+◌, ◌-◌, ◌*◌, �
 use mathlib.Core.List.{reverse-cons}
 use Rattle.std.proofs.lemmas.List.{get_or-set_same, get_or-set_other, take_more_set}
 use Rattle.std.proofs.lemmas.List.Sums.{sum_by-set, get_or-le-sum_by}
-use Rattle.std.proofs.lemmas.Bool.{cases_eq, cases_Bool, eq-eqb, eqb-true, ne_eqb, not_from_true, not_from_false}
+use Rattle.std.proofs.lemmas.Bool.{cases_eq, cases_Bool, eq-eqb, eqb-true, ne_eqb, not_from_false, not-false}
 use Rattle.measure.specs.Ops.{Ops, Laws}
 use Rattle.queue.specs.declared.entry.Entry.{Entry}
 use Rattle.queue.specs.Entry.{entry_leb}
 use Rattle.queue.specs.Heap.{Removed}
-use Rattle.sheet.specs.declared.slot.Slot.{Slot}
+use Rattle.sheet.specs.Slots.{Slot}
 use Rattle.sheet.specs.Slots.{rule_at, passes}
 use Rattle.sheet.proofs.Within.{passes_at, within_parts}
 use Rattle.derivation.specs.Search.{Closed, State, start, is_closed, no_reason, among, queued, entry, take_entry, reached, step, run, final}
@@ -32,18 +32,25 @@ pub record Loop {W : Type 0} (m : Ops W) (xs : List Slot) (rest : ℕ → W) (ta
   pub room : taken + (count + unready missing) ≤ length xs
   pub on : run m (weighted m xs) rest target (suc (length xs) - taken) state ≡ outcome m xs rest target
   pub unreached : reached target state ≡ false
+  pub missing_long : length missing ≡ length xs
+  pub reasons_long : length reasons ≡ length weights
+  pub order_long : length order ≡ length weights
+  pub within : passes (length weights) xs ≡ true
+  pub few : length xs ≤ 16000
 
 start_unreached : (W : Type 0) (target : Option ℕ) → reached target (start {W = W}) ≡ false
 start_unreached W None = refl
 start_unreached W (Some t) = refl
 
 module _ {W : Type 0} (m : Ops W) (xs : List Slot) (rest : ℕ → W) (target : Option ℕ) where
-  pub loop_start : (weights : List W) (reasons order missing : List ℕ) (queue : List (Entry W)) (first : ℕ)
-      → Shows m xs start weights reasons order 0 0 → Running xs (start {W = W}) reasons missing 0
-      → Ready m rest xs weights [] missing queue first → first + unready missing ≤ length xs
-      → Loop m xs rest target weights reasons order missing queue first 0 0
+  pub loop_start : (weights : List W) (reasons order missing : List ℕ) (queue : List (Entry W)) (count closed : ℕ)
+      → Shows m xs start weights reasons order closed 0 → Running xs (start {W = W}) reasons missing closed
+      → Ready m rest xs weights [] missing queue count → count + unready missing ≤ length xs
+      → length missing ≡ length xs → length reasons ≡ length weights → length order ≡ length weights
+      → passes (length weights) xs ≡ true → length xs ≤ 16000
+      → Loop m xs rest target weights reasons order missing queue count closed 0
   unfolding outcome final
-  loop_start weights reasons order missing queue first a b c d = record {
+  loop_start weights reasons order missing queue count closed a b c d e f g h i = record {
     state = start;
     shows = a;
     running = b;
@@ -51,6 +58,11 @@ module _ {W : Type 0} (m : Ops W) (xs : List Slot) (rest : ℕ → W) (target : 
     room = omega (arith, d);
     on = ap (λ k. run m (weighted m xs) rest target k start) (let e : suc (length xs) - 0 ≡ suc (length (weighted m xs)) = omega (arith, length_weighted m xs) in e);
     unreached = start_unreached W target;
+    missing_long = e;
+    reasons_long = f;
+    order_long = g;
+    within = h;
+    few = i;
   }
 
 waiting_taken : (xs : List Slot) (taken ms : List ℕ) (r k : ℕ) → waiting xs (r ∷ taken) ms k ≡ (not (eqb r k) && waiting xs taken ms k)
@@ -75,15 +87,14 @@ reached_next (Some t) cs c taken taken' h = rw h (alone (eqb c.fact t))
     alone true = refl
     alone false = refl
 
-module _ {W : Type 0} {m : Ops W} (laws : Laws m) (xs : List Slot) (rest : ℕ → W) (target : Option ℕ)
-    (weights : List W) (reasons order missing : List ℕ) (queue : List (Entry W)) (count closed taken : ℕ)
-    (lengths : length missing ≡ length xs) (within : passes (length weights) xs ≡ true)
+module _ {W : Type 0} {m : Ops W} (laws : Laws m) {xs : List Slot} {rest : ℕ → W} {target : Option ℕ}
+    {weights : List W} {reasons order missing : List ℕ} {queue : List (Entry W)} {count closed taken : ℕ}
     (now : Loop m xs rest target weights reasons order missing queue count closed taken) where
   abbrev s : State W
   s = now.state
 
   queue_is : (r : ℕ) → queued m (weighted m xs) s r ≡ waiting xs s.taken missing r
-  queue_is r = queued_is m xs s missing r lengths (now.running.missing_at r)
+  queue_is r = queued_is m xs s missing r now.missing_long (now.running.missing_at r)
 
   -- the queue is empty: the state is the last one
   pub ended : count ≡ 0 → s ≡ outcome m xs rest target
@@ -100,7 +111,7 @@ module _ {W : Type 0} {m : Ops W} (laws : Laws m) (xs : List Slot) (rest : ℕ �
       let l = none_least laws (weighted m xs) rest target s (λ r. queue_is r ∙ none r) (length (weighted m xs)) in
       sym (run_ended laws (weighted m xs) rest target s (step_none laws (weighted m xs) rest target s l) (suc (length xs) - taken)) ∙ now.on
 
-  module _ (queue' : List (Entry W)) (x : Entry W) (out : Removed (entry_leb m) queue count queue' x) where
+  module _ {queue' : List (Entry W)} {x : Entry W} (out : Removed (entry_leb m) queue count queue' x) where
     abbrev r : ℕ
     r = x.rule
 
@@ -114,17 +125,17 @@ module _ {W : Type 0} {m : Ops W} (laws : Laws m) (xs : List Slot) (rest : ℕ �
     waits = waiting_parts xs s.taken missing r taken_out.flagged
 
     pub rule_under : r < length xs
-    rule_under = omega (arith, waits.under, lengths)
+    rule_under = omega (arith, waits.under, now.missing_long)
 
     pub head_under : h < length weights
-    head_under = (within_parts (length weights) (rule_at xs r) (passes_at (length weights) xs r within rule_under).1 waits.stands).0
+    head_under = (within_parts (length weights) (rule_at xs r) (passes_at (length weights) xs r now.within rule_under).1 waits.stands).0
 
     least_entry : step m (weighted m xs) rest target s ≡ Some (take_entry m (weighted m xs) s x)
     least_entry =
         let entries : (k : ℕ) → k < length xs → entry m (weighted m xs) rest s.closed k ≡ entry_at m rest xs weights k =
-        λ k b. entry_is m rest xs s.closed weights k (length weights) within b now.shows.weights_at in
+        λ k b. entry_is m rest xs s.closed weights k (length weights) now.within b now.shows.weights_at in
         let under : (k : ℕ) → waiting xs s.taken missing k ≡ true → k < length xs =
-        λ k q. omega (arith, (waiting_parts xs s.taken missing k q).under, lengths) in
+        λ k q. omega (arith, (waiting_parts xs s.taken missing k q).under, now.missing_long) in
         let l = least_is laws (weighted m xs) rest s x (queue_is r ∙ taken_out.flagged) (taken_out.is ∙ sym (entries r rule_under))
         (λ k q. let w = sym (queue_is k) ∙ q in rw (entries k (under k w)) (taken_out.least k w))
         (length (weighted m xs)) (rw (length_weighted m xs) rule_under) in
@@ -173,32 +184,33 @@ module _ {W : Type 0} {m : Ops W} (laws : Laws m) (xs : List Slot) (rest : ℕ �
       room = room_next;
       on = rw (is_dropped c) at on_next;
       unreached = same_reached (r ∷ s.taken) ∙ now.unreached;
+      missing_long = now.missing_long;
+      reasons_long = now.reasons_long;
+      order_long = now.order_long;
+      within = now.within;
+      few = now.few;
     }
 
-    module _ (same_reasons : length reasons ≡ length weights) (same_order : length order ≡ length weights) (few : length xs ≤ 16000)
-        (free_head : get_or reasons h no_reason ≡ no_reason) where
+    module _ (unclosed_head : is_closed s.closed h ≡ false) where
       abbrev c : Closed W
       c = record { fact = h; weight = x.weight; rule = r }
 
       abbrev s' : State W
       s' = record { closed = c ∷ s.closed; taken = r ∷ s.taken }
 
-      unclosed_head : is_closed s.closed h ≡ false
-      unclosed_head =
-          now.running.closed_at h
-          ∙ ap (λ k. not (eqb k no_reason)) (sym (now.shows.reasons_at h) ∙ free_head)
-          ∙ not_from_true _ (eq-eqb no_reason no_reason refl)
+      free_head : get_or reasons h no_reason ≡ no_reason
+      free_head = now.shows.reasons_at h ∙ eqb-true _ no_reason (not-false _ (sym (now.running.closed_at h) ∙ unclosed_head))
 
       is_closing : take_entry m (weighted m xs) s x ≡ s'
       unfolding take_entry
       is_closing = rw (head_is m xs r, unclosed_head)
 
       -- fewer facts are closed than there are
-      pub order_room : closed < length order
+      order_room : closed < length order
       order_room =
           let one : bit (eqb (get_or reasons h no_reason) no_reason) ≡ 1 = ap bit (eq-eqb _ _ free_head) in
-          let le = get_or-le-sum_by (λ (k : ℕ). bit (eqb k no_reason)) reasons h no_reason (omega (arith, head_under, same_reasons)) in
-          omega (arith, now.running.free, one, le, same_reasons, same_order)
+          let le = get_or-le-sum_by (λ (k : ℕ). bit (eqb k no_reason)) reasons h no_reason (omega (arith, head_under, now.reasons_long)) in
+          omega (arith, now.running.free, one, le, now.reasons_long, now.order_long)
 
       shows_closed : Shows m xs s' (set weights h x.weight) (set reasons h r) (set order closed r) (closed + 1) (taken + 1)
       shows_closed = record {
@@ -207,7 +219,7 @@ module _ {W : Type 0} {m : Ops W} (laws : Laws m) (xs : List Slot) (rest : ℕ �
           | inr e ↦ rw (ne_eqb h f (λ q. e (sym q))) (get_or-set_other weights h f x.weight m.heaviest e ∙ now.shows.weights_at f)
         ];
         reasons_at = λ f. elim (cases_eq f h) [
-          | inl e ↦ rw (e, eq-eqb h h refl) (get_or-set_same reasons h r no_reason (omega (arith, head_under, same_reasons)))
+          | inl e ↦ rw (e, eq-eqb h h refl) (get_or-set_same reasons h r no_reason (omega (arith, head_under, now.reasons_long)))
           | inr e ↦ rw (ne_eqb h f (λ q. e (sym q))) (get_or-set_other reasons h f r no_reason e ∙ now.shows.reasons_at f)
         ];
         order_is = take_more_set order closed r order_room ∙ ap (λ l. l ++ (r ∷ [])) now.shows.order_is ∙ sym (reverse-cons r (map (λ (d : Closed W). d.rule) s.closed));
@@ -260,20 +272,20 @@ module _ {W : Type 0} {m : Ops W} (laws : Laws m) (xs : List Slot) (rest : ℕ �
         free =
             let was : bit (eqb (get_or reasons h no_reason) no_reason) ≡ 1 = ap bit (eq-eqb _ _ free_head) in
             let is : bit (eqb r no_reason) ≡ 0 = ap bit not_none in
-            let change = sum_by-set (λ (k : ℕ). bit (eqb k no_reason)) reasons h r no_reason (omega (arith, head_under, same_reasons)) in
+            let change = sum_by-set (λ (k : ℕ). bit (eqb k no_reason)) reasons h r no_reason (omega (arith, head_under, now.reasons_long)) in
             omega (arith, was, is, change, now.running.free, length-set reasons h r);
       }
         where
           not_none : eqb r no_reason ≡ false
-          not_none = ne_eqb r no_reason (λ e. omega (arith, rule_under, few))
+          not_none = ne_eqb r no_reason (λ e. omega (arith, rule_under, now.few))
 
       -- the next turn, after the walk
-      pub walked : (missing' : List ℕ) (queue'' : List (Entry W)) (count' : ℕ) → wanted target h ≡ false
+      pub walked : (missing' : List ℕ) (queue'' : List (Entry W)) (count' : ℕ) → wanted target h ≡ false → length missing' ≡ length missing
           → ((k : ℕ) → get_or missing' k 0 + uses xs h k (4 * length xs) ≡ get_or missing k 0)
           → count' + unready missing' ≡ (count - 1) + unready missing
           → ((gone : List ℕ) → Ready m rest xs (set weights h x.weight) gone missing queue' (count - 1) → Ready m rest xs (set weights h x.weight) gone missing' queue'' count')
           → Loop m xs rest target (set weights h x.weight) (set reasons h r) (set order closed r) missing' queue'' count' (closed + 1) (taken + 1)
-      walked missing' queue'' count' w left total kept = record {
+      walked missing' queue'' count' w same left total kept = record {
         state = s';
         shows = shows_closed;
         running = running_closed missing' left;
@@ -281,4 +293,9 @@ module _ {W : Type 0} {m : Ops W} (laws : Laws m) (xs : List Slot) (rest : ℕ �
         room = omega (arith, room_next, total);
         on = on_closed;
         unreached = is_reached ∙ w;
+        missing_long = same ∙ now.missing_long;
+        reasons_long = length-set reasons h r ∙ now.reasons_long ∙ sym (length-set weights h x.weight);
+        order_long = length-set order closed r ∙ now.order_long ∙ sym (length-set weights h x.weight);
+        within = rw (length-set weights h x.weight) now.within;
+        few = now.few;
       }

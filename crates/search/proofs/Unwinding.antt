@@ -1,9 +1,8 @@
 -- Writing the line, one rule back.
-use Rattle.std.proofs.Common.{◌≡◌, ℕ, ◌+◌, ◌-◌, ◌<◌, ◌≤◌, Bool, true, false, cond, ◌&&◌, ◌||◌, eqb, List, [], ◌∷◌, ◌++◌, reverse, length, get_or, take, drop, set, sym, refl, ap, ◌∙◌, inl, inr, append_assoc, append-nil, arith}
-use mathlib.Core.List.{reverse-append}
-use Rattle.std.proofs.lemmas.List.{take_more, take_more_set, drop-set-lt, drop-drop, get_or-set_same, get_or-set_other, take_all}
+use Rattle.std.proofs.Common.{◌≡◌, ℕ, ◌+◌, ◌<◌, ◌≤◌, Bool, true, false, cond, ◌||◌, eqb, List, [], ◌∷◌, ◌++◌, length, get_or, take, drop, set, sym, refl, ap, ◌∙◌, inl, inr, append_assoc, arith}
+use Rattle.std.proofs.lemmas.List.{take_more, take_more_set, drop-set-lt, drop-drop, at_drop_more, get_or-set_same, get_or-set_other}
 use Rattle.std.proofs.lemmas.Bool.{cases_eq, eq-eqb, ne_eqb}
-use Rattle.sheet.specs.declared.slot.Slot.{Slot}
+use Rattle.sheet.specs.Slots.{Slot}
 use Rattle.sheet.specs.Rules.{body_of}
 use Rattle.sheet.specs.Slots.{rule_at}
 use Rattle.derivation.specs.Search.{among}
@@ -42,21 +41,21 @@ marks_more body needed needed₀ i h l old f =
     last true = refl
     last false = refl
 
--- What holds before each turn: N is what is needed so far, and the rules before `left` are still to come.
-pub record Drawing (xs : List Slot) (order : List ℕ) (target : ℕ) (needed line line₀ : List ℕ) (len left : ℕ) : Type 0 where
+-- What holds after i turns of those over the rules rs: `wants` is what is needed so far.
+pub record Drawing (xs : List Slot) (rs : List ℕ) (target : ℕ) (needed line line₀ : List ℕ) (len i : ℕ) : Type 0 where
   pub wants : List ℕ
   pub marks : (f : ℕ) → f < length needed → get_or needed f 0 ≡ cond (among wants f) 1 0
-  pub drawn : take len line ++ unwound_rules xs (reverse (take left order)) wants ≡ unwound_rules xs (reverse order) (target ∷ [])
+  pub drawn : take len line ++ unwound_rules xs (drop i rs) wants ≡ unwound_rules xs rs (target ∷ [])
   pub beyond : drop len line ≡ drop len line₀
-  pub fewer : len + left ≤ length order
+  pub fewer : len ≤ i
 
-pub drawing_start : (xs : List Slot) (order : List ℕ) (target : ℕ) (needed line : List ℕ)
+pub drawing_start : (xs : List Slot) (rs : List ℕ) (target : ℕ) (needed line : List ℕ)
     → ((f : ℕ) → f < length needed → get_or needed f 0 ≡ cond (eqb target f) 1 0)
-    → Drawing xs order target needed line line 0 (length order)
-drawing_start xs order target needed line m = record {
+    → Drawing xs rs target needed line line 0 0
+drawing_start xs rs target needed line m = record {
   wants = target ∷ [];
   marks = λ f h. m f h ∙ ap (λ b. cond b 1 0) (sym (or_false (eqb target f)));
-  drawn = ap (λ l. unwound_rules xs (reverse l) (target ∷ [])) (take_all (length order) order (omega arith));
+  drawn = refl;
   beyond = refl;
   fewer = omega arith;
 }
@@ -65,79 +64,50 @@ either : (p q : Bool) → ◌≡◌ {A = ℕ} (cond p 1 (cond q 1 0)) (cond (p |
 either true q = refl
 either false q = refl
 
--- nothing is left to come
-pub drawing_end : (xs : List Slot) (order : List ℕ) (target : ℕ) (needed line line₀ : List ℕ) (len left : ℕ) → left ≡ 0
-    → Drawing xs order target needed line line₀ len left → take len line ≡ unwound_rules xs (reverse order) (target ∷ [])
-drawing_end xs order target needed line line₀ len left z d =
-    sym (append-nil (take len line)) ∙ sym (ap (λ (k : ℕ). take len line ++ unwound_rules xs (reverse (take k order)) d.wants) z) ∙ d.drawn
-
 bit_one : (b : Bool) → eqb (cond b 1 0) 1 ≡ b
 bit_one true = refl
 bit_one false = refl
 
-module _ (xs : List Slot) (order : List ℕ) (target : ℕ) (needed line line₀ : List ℕ) (len left : ℕ)
-    (now : Drawing xs order target needed line line₀ len left) (some : 0 < left) (long : length order ≤ length line) where
-  abbrev r : ℕ
-  r = get_or order (left - 1) 0
-
+module _ (xs : List Slot) (rs : List ℕ) (target : ℕ) (needed line line₀ : List ℕ) (len i : ℕ)
+    (now : Drawing xs rs target needed line line₀ len i) (some : i < length rs) (long : length rs ≤ length line) (r : ℕ) (is : r ≡ get_or rs i r) where
   abbrev h : ℕ
   h = (rule_at xs r).head
 
   abbrev hit : Bool
   hit = eqb (get_or needed h 0) 1
 
-  front : reverse (take left order) ≡ r ∷ reverse (take (left - 1) order)
-  front =
-      let e : take left order ≡ take (left - 1) order ++ (r ∷ []) =
-      ap (λ (k : ℕ). take k order) (let q : left ≡ left - 1 + 1 = omega arith in q) ∙ take_more order (left - 1) 0 (omega (arith, now.fewer)) in
-      ap reverse e ∙ reverse-append (take (left - 1) order) (r ∷ [])
-
   -- the rules still to come, with the next one in front
-  to_come : take len line ++ cond (among now.wants h) (r ∷ unwound_rules xs (reverse (take (left - 1) order)) (body_of (rule_at xs r) ++ now.wants)) (unwound_rules xs (reverse (take (left - 1) order)) now.wants)
-      ≡ unwound_rules xs (reverse order) (target ∷ [])
-  to_come = sym (ap (λ l. take len line ++ unwound_rules xs l now.wants) front) ∙ now.drawn
+  to_come : take len line ++ cond (among now.wants h) (r ∷ unwound_rules xs (drop (i + 1) rs) (body_of (rule_at xs r) ++ now.wants)) (unwound_rules xs (drop (i + 1) rs) now.wants)
+      ≡ unwound_rules xs rs (target ∷ [])
+  to_come = sym (at_drop_more (λ l. take len line ++ unwound_rules xs l now.wants) rs i r some ∙ ap (λ k. take len line ++ unwound_rules xs (k ∷ drop (i + 1) rs) now.wants) (sym is)) ∙ now.drawn
 
   hit_is : h < length needed → hit ≡ among now.wants h
   hit_is l = ap (λ k. eqb k 1) (now.marks h l) ∙ bit_one (among now.wants h)
 
-  pub drawing_next : (needed' line' : List ℕ) (len' : ℕ) → h < length needed → length needed' ≡ length needed
-      → len' ≡ len + cond hit 1 0 → line' ≡ cond hit (set line len r) line
-      → ((f : ℕ) → get_or needed' f 0 ≡ cond (hit && among (body_of (rule_at xs r)) f) 1 (get_or needed f 0))
-      → Drawing xs order target needed' line' line₀ len' (left - 1)
-  drawing_next needed' line' len' l same a b c = go hit refl
-    where
-      go : (y : Bool) → hit ≡ y → Drawing xs order target needed' line' line₀ len' (left - 1)
-      go true e =
-          let w : among now.wants h ≡ true = sym (hit_is l) ∙ e in
-          let a' : len' ≡ len + 1 = a ∙ ap (λ z. len + cond z 1 0) e in
-          let b' : line' ≡ set line len r = b ∙ ap (λ z. cond z (set line len r) line) e in
-          let t : take len' line' ≡ take len line ++ (r ∷ []) =
-          ap (λ (k : ℕ). take k line') a' ∙ ap (take (len + 1)) b' ∙ take_more_set line len r (omega (arith, now.fewer, long)) in
-          record {
-            wants = body_of (rule_at xs r) ++ now.wants;
-            marks = λ f k.
-                c f
-                ∙ ap (λ z. cond (z && among (body_of (rule_at xs r)) f) 1 (get_or needed f 0)) e
-                ∙ ap (λ (z : ℕ). cond (among (body_of (rule_at xs r)) f) 1 z) (now.marks f (rw same at k))
-                ∙ either (among (body_of (rule_at xs r)) f) (among now.wants f)
-                ∙ ap (λ z. cond z 1 0) (sym (among_append (body_of (rule_at xs r)) now.wants f));
-            drawn =
-                ap (λ z. z ++ unwound_rules xs (reverse (take (left - 1) order)) (body_of (rule_at xs r) ++ now.wants)) t
-                ∙ append_assoc (take len line) (r ∷ []) _
-                ∙ (rw w at to_come);
-            beyond =
-                ap (λ (k : ℕ). drop k line') a' ∙ ap (drop (len + 1)) b' ∙ drop-set-lt (len + 1) line len r (omega arith)
-                ∙ sym (drop-drop 1 len line) ∙ ap (drop 1) now.beyond ∙ drop-drop 1 len line₀ ∙ ap (λ (k : ℕ). drop k line₀) (sym a');
-            fewer = omega (arith, now.fewer, a');
-          }
-      go false e =
-          let w : among now.wants h ≡ false = sym (hit_is l) ∙ e in
-          let a' : len' ≡ len = a ∙ ap (λ z. len + cond z 1 0) e ∙ omega arith in
-          let b' : line' ≡ line = b ∙ ap (λ z. cond z (set line len r) line) e in
-          record {
-            wants = now.wants;
-            marks = λ f k. c f ∙ ap (λ z. cond (z && among (body_of (rule_at xs r)) f) 1 (get_or needed f 0)) e ∙ now.marks f (rw same at k);
-            drawn = ap (λ z. z ++ unwound_rules xs (reverse (take (left - 1) order)) now.wants) (ap (λ (k : ℕ). take k line') a' ∙ ap (take len) b') ∙ (rw w at to_come);
-            beyond = ap (λ (k : ℕ). drop k line') a' ∙ ap (drop len) b' ∙ now.beyond ∙ ap (λ (k : ℕ). drop k line₀) (sym a');
-            fewer = omega (arith, now.fewer, a');
-          }
+  -- the next rule's head is not needed
+  pub drawing_passed : h < length needed → (get_or needed h 0 ≡ 1 → ⊥) → Drawing xs rs target needed line line₀ len (i + 1)
+  drawing_passed l not_one =
+      let w : among now.wants h ≡ false = sym (hit_is l) ∙ ne_eqb _ 1 not_one in
+      record { wants = now.wants; marks = now.marks; drawn = rw w at to_come; beyond = now.beyond; fewer = omega (arith, now.fewer) }
+
+  -- it is needed: the rule is written, and its body is needed
+  pub drawing_more : (needed' : List ℕ) → h < length needed → get_or needed h 0 ≡ 1 → length needed' ≡ length needed
+      → ((f : ℕ) → get_or needed' f 0 ≡ cond (among (body_of (rule_at xs r)) f) 1 (get_or needed f 0))
+      → Drawing xs rs target needed' (set line len r) line₀ (len + 1) (i + 1)
+  drawing_more needed' l one same c =
+      let w : among now.wants h ≡ true = sym (hit_is l) ∙ eq-eqb _ 1 one in
+      let t : take (len + 1) (set line len r) ≡ take len line ++ (r ∷ []) = take_more_set line len r (omega (arith, now.fewer, long)) in
+      record {
+        wants = body_of (rule_at xs r) ++ now.wants;
+        marks = λ f k.
+            c f
+            ∙ ap (λ (z : ℕ). cond (among (body_of (rule_at xs r)) f) 1 z) (now.marks f (rw same at k))
+            ∙ either (among (body_of (rule_at xs r)) f) (among now.wants f)
+            ∙ ap (λ z. cond z 1 0) (sym (among_append (body_of (rule_at xs r)) now.wants f));
+        drawn =
+            ap (λ z. z ++ unwound_rules xs (drop (i + 1) rs) (body_of (rule_at xs r) ++ now.wants)) t
+            ∙ append_assoc (take len line) (r ∷ []) _
+            ∙ (rw w at to_come);
+        beyond = drop-set-lt (len + 1) line len r (omega arith) ∙ sym (drop-drop 1 len line) ∙ ap (drop 1) now.beyond ∙ drop-drop 1 len line₀;
+        fewer = omega (arith, now.fewer);
+      }

@@ -7,7 +7,7 @@ use Rattle.measure.specs.Ops.{Ops}
 use Rattle.queue.specs.declared.entry.Entry.{Entry}
 use Rattle.queue.specs.Entry.{entry_leb}
 use Rattle.queue.specs.Heap.{Added}
-use Rattle.sheet.specs.declared.slot.Slot.{Slot}
+use Rattle.sheet.specs.Slots.{Slot}
 use Rattle.sheet.specs.Slots.{rule_at}
 use Rattle.derivation.specs.Search.{among}
 use Rattle.search.specs.Entries.{rule_entry}

@@ -1,7 +1,7 @@
 -- What a search leaves in each column.
 use Rattle.std.specs.Prelude.{◌≡◌, ℕ, Bool, false, cond, List, ◌++◌, length, drop}
 use Rattle.measure.specs.Ops.{Ops}
-use Rattle.sheet.specs.declared.slot.Slot.{Slot}
+use Rattle.sheet.specs.Slots.{Slot}
 use Rattle.sheet.specs.Refusals.{Answer, after}
 use Rattle.derivation.specs.Search.{weight_of, reason_of}
 use Rattle.search.specs.declared.columns.Found.{Found}

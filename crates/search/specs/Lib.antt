@@ -2,9 +2,11 @@ pub mod Entries
 pub mod Chains
 pub mod Waiting
 pub mod Shown
+pub mod ClosedFacts
 pub mod Unwound
 pub mod Answered
 pub mod Left
 pub mod Promise
 pub mod PromiseOver
 pub mod Surveyed
+pub mod Same

@@ -1,7 +1,7 @@
 -- What a search promises, in the words of derivations, of its answer and of what it leaves in its columns.
 use Rattle.std.specs.Prelude.{◌≡◌, ℕ, Bool, true, false, ◌&&◌, List, length, take, nat_lt, slice_index_or}
 use Rattle.measure.specs.Ops.{Ops}
-use Rattle.sheet.specs.declared.slot.Slot.{Slot}
+use Rattle.sheet.specs.Slots.{Slot}
 use Rattle.sheet.specs.Refusals.{Answer, accepted, refused, Told}
 use Rattle.derivation.specs.Trees.{Tree, Derives, weight, Derivable, Least, Lightest}
 use Rattle.derivation.specs.Search.{no_reason}

@@ -1,7 +1,7 @@
 -- What a survey answers and leaves in its columns.
 use Rattle.std.specs.Prelude.{◌≡◌, ℕ, ◌<◌, Bool, cond, ◌&&◌, List, [], ◌++◌, drop, None, nat_le, slice_index_or}
 use Rattle.measure.specs.Ops.{Ops}
-use Rattle.sheet.specs.declared.slot.Slot.{Slot}
+use Rattle.sheet.specs.Slots.{Slot}
 use Rattle.sheet.specs.Refusals.{Answer, accepted, refused}
 use Rattle.derivation.specs.Search.{State, closed_count, taken_count, weight_of, reason_of}
 use Rattle.derivation.specs.Trees.{Derivable, Lightest}

@@ -5,7 +5,7 @@ use Rattle.measure.specs.Ops.{Ops}
 use Rattle.queue.specs.declared.entry.Entry.{Entry}
 use Rattle.queue.specs.Entry.{entry_leb}
 use Rattle.queue.specs.Heap.{Heap}
-use Rattle.sheet.specs.declared.slot.Slot.{Slot}
+use Rattle.sheet.specs.Slots.{Slot}
 use Rattle.sheet.specs.declared.rule.Rule.{Rule}
 use Rattle.sheet.specs.Rules.{body_of}
 use Rattle.sheet.specs.Slots.{rule_at}

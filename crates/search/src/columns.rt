@@ -1,5 +1,9 @@
 // The columns lent to a search, and what it answers.
+ghost use Rattle.std.specs.Prelude.{◌≡◌, length};
+ghost use Rattle.search.specs.Surveyed.{survey_long};
+
 use queue::entry::Entry;
+use sheet::passed::Passed;
 
 // The columns that a search writes.
 #[derive(Drop)]
@@ -34,4 +38,19 @@ pub struct Found<W> {
 pub struct Counts {
     pub closed: u16,
     pub taken: u16,
+}
+
+// Whether columns of these lengths, which a search and a survey both write, are long enough for a sheet.
+pub(crate) fn are_long(
+    sheet: &Passed,
+    weights: usize,
+    reasons: usize,
+    queue: usize,
+    work: usize,
+) -> bool
+    ensures { result ≡ survey_long sheet.now.facts (length sheet.now.slots.now) weights reasons queue work }
+{
+    let facts = sheet.facts() as usize;
+    let rules = sheet.slots().len();
+    facts <= weights && facts <= reasons && rules <= queue && 3 * facts + 5 * rules <= work
 }

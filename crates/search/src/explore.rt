@@ -1,53 +1,40 @@
 // Set-up and main loop.
-ghost use Rattle.std.specs.Prelude.{◌≡◌, ℕ, ◌*◌, ◌≤◌, true, length, replicate};
-ghost use Rattle.derivation.specs.Search.{closed_count, taken_count};
-ghost use Rattle.search.specs.Shown.{Shows, outcome, run_answer};
-ghost use Rattle.sheet.specs.Slots.{passes};
+ghost use Rattle.std.specs.Prelude.{◌≡◌, ◌+◌, ◌*◌, ◌≤◌, length};
+ghost use Rattle.search.specs.ClosedFacts.{SameClosed, ShowsEnd};
+ghost use Rattle.search.specs.Shown.{outcome, run_answer};
 
+use crate::chain::{Chains, count_missing};
+use crate::closed::Closed;
 use crate::columns::Counts;
-use crate::run::{NO_RULE, run, store};
+use crate::run::run;
 use crate::seed::seed;
-use crate::setup::{chain, count_missing};
 use guide::Guide;
 use measure::Measure;
 use queue::entry::Entry;
+use queue::lent::Queue;
+use sheet::passed::Passed;
 use sheet::refusal::Refusal;
-use sheet::slot::Slot;
-
-// No fact is closed: every weight is heaviest.
-fn clear<W: Measure>(weights: &mut [W])
-    ensures { weights.new ≡ replicate (length weights.old) W.Measure.ops.heaviest }
-{
-    for i in 0..weights.len() {
-        store(weights, i, W::heaviest());
-    }
-}
 
 // Runs the search from its start, and answers the counts; a survey has no target.
 pub(crate) fn explore<W: Measure, G: Guide<W>>(
-    slots: &[Slot],
+    sheet: &Passed,
     target: Option<u16>,
     guide: &G,
-    weights: &mut [W],
-    reasons: &mut [u16],
+    closed: &mut Closed<W>,
     queue: &mut [Entry<W>],
-    heads: &mut [u16],
-    order: &mut [u16],
-    missing: &mut [u16],
-    next: &mut [u16],
+    work: &mut [u16],
 ) -> Result<Counts, Refusal>
-    requires long { (length reasons.old ≡ length weights.old) × (length order.old ≡ length weights.old) × (length heads.old ≡ length weights.old) × (length missing.old ≡ length slots.now) }
-    requires few { (length slots.now ≤ 16000) × (length weights.old ≤ 4096) × (4 * length slots.now ≤ length next.old) × (length slots.now ≤ length queue.old) }
-    requires within { passes (length weights.old) slots.now ≡ true }
-    ensures answered { result ≡ run_answer target (outcome W.Measure.ops slots.now (G.Guide.rest guide.now) target) }
-    ensures shows { Shows W.Measure.ops slots.now (outcome W.Measure.ops slots.now (G.Guide.rest guide.now) target) weights.new reasons.new order.new (closed_count (outcome W.Measure.ops slots.now (G.Guide.rest guide.now) target)) (taken_count (outcome W.Measure.ops slots.now (G.Guide.rest guide.now) target)) }
+    requires facts { length closed.old.weights.now ≡ sheet.now.facts }
+    requires rules { (length sheet.now.slots.now ≤ length queue.old) × (sheet.now.facts + 5 * length sheet.now.slots.now ≤ length work.old) }
+    ensures same { SameClosed closed.old closed.new }
+    ensures answered { result ≡ run_answer target (outcome W.Measure.ops sheet.now.slots.now (G.Guide.rest guide.now) target) }
+    ensures shows { ShowsEnd W.Measure.ops sheet.now.slots.now (G.Guide.rest guide.now) target closed.new }
 {
-    clear(weights);
-    reasons.fill(NO_RULE);
-    count_missing(slots, missing);
-    chain(slots, heads, next);
-    let first = seed(slots, missing, weights, guide, queue);
-    run(
-        slots, target, guide, weights, reasons, order, heads, next, missing, queue, first,
-    )
+    closed.reopen();
+    let (missing, work) = work.split_at_mut(sheet.slots().len());
+    count_missing(sheet, missing);
+    let chains = Chains::new(sheet, work);
+    let mut queue = Queue::new(queue);
+    seed(sheet, missing, closed, guide, &mut queue);
+    run(&chains, target, guide, closed, missing, &mut queue)
 }

@@ -1,88 +1,63 @@
 // The main loop.
-ghost use Rattle.std.specs.Prelude.{◌≡◌, ◌+◌, ◌*◌, ◌<◌, ◌≤◌, true, [], length, slice_set};
-ghost use Rattle.derivation.specs.Search.{start, closed_count, taken_count};
-ghost use Rattle.search.specs.Chains.{Chained};
+ghost use Rattle.std.specs.Prelude.{◌≡◌, ◌+◌, ◌≤◌, [], length};
+ghost use Rattle.derivation.specs.Search.{start};
+ghost use Rattle.search.specs.ClosedFacts.{SameClosed, ShowsEnd};
 ghost use Rattle.search.specs.Waiting.{unready, Ready};
 ghost use Rattle.search.specs.Shown.{Shows, Running, wanted, outcome, run_answer};
-ghost use Rattle.sheet.specs.Slots.{passes};
 
+use crate::chain::Chains;
+use crate::closed::Closed;
 use crate::columns::Counts;
+use crate::rules::rule_of;
 use crate::visit::walk;
 use guide::Guide;
 use measure::Measure;
 use queue::entry::Entry;
-use queue::heap::take;
+use queue::lent::Queue;
 use sheet::refusal::Refusal;
-use sheet::slot::Slot;
-
-// The reason of a fact that is not closed.
-pub const NO_RULE: u16 = 65_535;
 
 // Whether the fact is the target; a survey has none.
 fn is_target(target: Option<u16>, fact: u16) -> bool
     ensures { result ≡ wanted target fact }
 {
-    match target {
-        Some(t) => fact == t,
-        None => false,
-    }
-}
-
-// Writes one element of a column.
-pub(crate) fn store<W: Copy>(column: &mut [W], i: usize, value: W)
-    requires { i < length column.old }
-    ensures { column.new ≡ slice_set column.old i value }
-{
-    column[i] = value;
+    target == Some(fact)
 }
 
 // Takes entries until the target is closed; out of reach where the queue runs empty first.
 pub(crate) fn run<W: Measure, G: Guide<W>>(
-    slots: &[Slot],
+    chains: &Chains,
     target: Option<u16>,
     guide: &G,
-    weights: &mut [W],
-    reasons: &mut [u16],
-    order: &mut [u16],
-    heads: &[u16],
-    next: &[u16],
+    closed: &mut Closed<W>,
     missing: &mut [u16],
-    queue: &mut [Entry<W>],
-    first: usize,
+    queue: &mut Queue<Entry<W>>,
 ) -> Result<Counts, Refusal>
-    requires long { (length reasons.old ≡ length weights.old) × (length order.old ≡ length weights.old) × (length heads.now ≡ length weights.old) × (length missing.old ≡ length slots.now) }
-    requires few { (length slots.now ≤ 16000) × (length weights.old ≤ 4096) × (4 * length slots.now ≤ length next.now) × (length slots.now ≤ length queue.old) }
-    requires within { passes (length weights.old) slots.now ≡ true }
-    requires chained { Chained slots.now heads.now next.now (4 * length slots.now) }
-    requires shown { Shows W.Measure.ops slots.now start weights.old reasons.old order.old 0 0 }
-    requires running { Running slots.now (start {W = W}) reasons.old missing.old 0 }
-    requires ready { Ready W.Measure.ops (G.Guide.rest guide.now) slots.now weights.old [] missing.old queue.old first }
-    requires room { first + unready missing.old ≤ length slots.now }
-    ensures answered { result ≡ run_answer target (outcome W.Measure.ops slots.now (G.Guide.rest guide.now) target) }
-    ensures shows { Shows W.Measure.ops slots.now (outcome W.Measure.ops slots.now (G.Guide.rest guide.now) target) weights.new reasons.new order.new (closed_count (outcome W.Measure.ops slots.now (G.Guide.rest guide.now) target)) (taken_count (outcome W.Measure.ops slots.now (G.Guide.rest guide.now) target)) }
+    requires long { (length closed.old.weights.now ≡ chains.now.sheet.facts) × (length missing.old ≡ length chains.now.sheet.slots.now) × (length chains.now.sheet.slots.now ≤ length queue.old.places.now) }
+    requires shown { Shows W.Measure.ops chains.now.sheet.slots.now start closed.old.weights.now closed.old.reasons.now closed.old.order.now closed.old.count 0 }
+    requires running { Running chains.now.sheet.slots.now (start {W = W}) closed.old.reasons.now missing.old closed.old.count }
+    requires ready { Ready W.Measure.ops (G.Guide.rest guide.now) chains.now.sheet.slots.now closed.old.weights.now [] missing.old queue.old.places.now queue.old.count }
+    requires room { queue.old.count + unready missing.old ≤ length chains.now.sheet.slots.now }
+    ensures same { SameClosed closed.old closed.new × (queue.new.places.ghost_name ≡ queue.old.places.ghost_name) }
+    ensures answered { result ≡ run_answer target (outcome W.Measure.ops chains.now.sheet.slots.now (G.Guide.rest guide.now) target) }
+    ensures shows { ShowsEnd W.Measure.ops chains.now.sheet.slots.now (G.Guide.rest guide.now) target closed.new }
 {
-    let mut count = first;
-    let mut closed: u16 = 0;
     let mut taken: u16 = 0;
     loop {
-        let Some(entry) = take(queue, count) else {
-            return Err(Refusal::OutOfReach(closed, taken));
+        let Some(entry) = queue.take() else {
+            return Err(Refusal::OutOfReach(closed.count, taken));
         };
-        count -= 1;
         taken += 1;
-        let head = slots[entry.rule as usize].rule().head;
-        if reasons[head as usize] != NO_RULE {
+        let head = rule_of(&chains.sheet, entry.rule as usize).head;
+        if closed.has(head) {
             continue;
         }
-        store(weights, head as usize, entry.weight);
-        reasons[head as usize] = entry.rule;
-        order[closed as usize] = entry.rule;
-        closed += 1;
+        closed.close(head, entry);
         if is_target(target, head) {
-            return Ok(Counts { closed, taken });
+            return Ok(Counts {
+                closed: closed.count,
+                taken,
+            });
         }
-        count = walk(
-            slots, head, heads, next, weights, guide, missing, queue, count,
-        );
+        walk(chains, head, closed, guide, missing, queue);
     }
 }

@@ -1,61 +1,59 @@
 // The first entries of a search: those of the rules with no open place from the start.
-ghost use Rattle.std.specs.Prelude.{◌≡◌, ℕ, ◌+◌, ◌<◌, ◌≤◌, Bool, true, false, ◌&&◌, ◌||◌, [], length, if◌then◌else◌, ◌==◌};
+ghost use Rattle.std.specs.Prelude.{◌≡◌, ℕ, ◌+◌, ◌<◌, ◌≤◌, Bool, false, ◌&&◌, ◌||◌, [], length, if◌then◌else◌, ◌==◌};
 ghost use Rattle.search.specs.Waiting.{unready, waiting, Filled, entry_at, Ready};
-ghost use Rattle.sheet.specs.Slots.{passes};
 
+use crate::closed::Closed;
+use crate::rules::rule_of;
 use crate::weigh::entry_of;
 use guide::Guide;
 use measure::Measure;
 use queue::entry::Entry;
-use queue::heap::{Full, put};
-use sheet::slot::Slot;
+use queue::lent::Queue;
+use sheet::passed::Passed;
 
-// Puts in the entry of a rule if it stands and has no open place, and answers how many entries there are.
+// Puts in the entry of a rule if it stands and has no open place.
 fn seed_rule<W: Measure, G: Guide<W>>(
-    slots: &[Slot],
+    sheet: &Passed,
     number: usize,
     missing: &[u16],
     weights: &[W],
     guide: &G,
-    queue: &mut [Entry<W>],
-    count: usize,
-) -> usize
-    requires known { (number < length slots.now) × (length missing.now ≡ length slots.now) × (length slots.now ≤ 16000) }
-    requires within { passes (length weights.now) slots.now ≡ true }
-    requires room { count < length queue.old }
-    ensures counts { result ≡ count + (if waiting slots.now [] missing.now number then 1 else 0) }
-    ensures filled { (flag : ℕ → Bool) → flag number ≡ false → Filled W.Measure.ops (entry_at W.Measure.ops (G.Guide.rest guide.now) slots.now weights.now) flag queue.old count → Filled W.Measure.ops (entry_at W.Measure.ops (G.Guide.rest guide.now) slots.now weights.now) (λ k. (number == k && waiting slots.now [] missing.now number) || flag k) queue.new result }
+    queue: &mut Queue<Entry<W>>,
+)
+    requires known { number < length sheet.now.slots.now }
+    requires long { (length missing.now ≡ length sheet.now.slots.now) × (length weights.now ≡ sheet.now.facts) }
+    requires room { queue.old.count < length queue.old.places.now }
+    ensures same { (queue.new.places.ghost_name ≡ queue.old.places.ghost_name) × (length queue.new.places.now ≡ length queue.old.places.now) }
+    ensures counts { queue.new.count ≡ queue.old.count + (if waiting sheet.now.slots.now [] missing.now number then 1 else 0) }
+    ensures filled { (flag : ℕ → Bool) → flag number ≡ false → Filled W.Measure.ops (entry_at W.Measure.ops (G.Guide.rest guide.now) sheet.now.slots.now weights.now) flag queue.old.places.now queue.old.count → Filled W.Measure.ops (entry_at W.Measure.ops (G.Guide.rest guide.now) sheet.now.slots.now weights.now) (λ k. (number == k && waiting sheet.now.slots.now [] missing.now number) || flag k) queue.new.places.now queue.new.count }
 {
-    let rule = slots[number].rule();
+    let rule = rule_of(sheet, number);
     if rule.struck {
-        return count;
+        return;
     }
     if missing[number] > 0 {
-        return count;
+        return;
     }
     let entry = entry_of(&rule, number as u16, weights, guide);
-    match put(queue, count, entry) {
-        Ok(more) => more,
-        Err(Full) => count,
-    }
+    queue.put(entry).unwrap();
 }
 
-// Puts in the first entries, and answers how many there are.
+// Puts in the first entries.
 pub(crate) fn seed<W: Measure, G: Guide<W>>(
-    slots: &[Slot],
+    sheet: &Passed,
     missing: &[u16],
-    weights: &[W],
+    closed: &Closed<W>,
     guide: &G,
-    queue: &mut [Entry<W>],
-) -> usize
-    requires known { (length missing.now ≡ length slots.now) × (length slots.now ≤ 16000) × (length slots.now ≤ length queue.old) }
-    requires within { passes (length weights.now) slots.now ≡ true }
-    ensures ready { Ready W.Measure.ops (G.Guide.rest guide.now) slots.now weights.now [] missing.now queue.new result }
-    ensures total { result + unready missing.now ≤ length slots.now }
+    queue: &mut Queue<Entry<W>>,
+)
+    requires long { (length missing.now ≡ length sheet.now.slots.now) × (length closed.now.weights.now ≡ sheet.now.facts) }
+    requires room { (queue.old.count ≡ 0) × (length sheet.now.slots.now ≤ length queue.old.places.now) }
+    ensures same { (queue.new.places.ghost_name ≡ queue.old.places.ghost_name) × (length queue.new.places.now ≡ length queue.old.places.now) }
+    ensures ready { Ready W.Measure.ops (G.Guide.rest guide.now) sheet.now.slots.now closed.now.weights.now [] missing.now queue.new.places.now queue.new.count }
+    ensures total { queue.new.count + unready missing.now ≤ length sheet.now.slots.now }
 {
-    let mut count = 0;
-    for number in 0..slots.len() {
-        count = seed_rule(slots, number, missing, weights, guide, queue, count);
+    // by number: rule_of says of a rule what its slot alone does not
+    for number in 0..sheet.slots().len() {
+        seed_rule(sheet, number, missing, closed.weights, guide, queue);
     }
-    count
 }

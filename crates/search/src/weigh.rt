@@ -1,23 +1,23 @@
 // The entry of a rule whose body is closed throughout.
-ghost use Rattle.std.specs.Prelude.{◌≡◌, true, length};
+ghost use Rattle.std.specs.Prelude.{◌≡◌};
 ghost use Rattle.search.specs.Entries.{rule_weight, rule_entry};
-ghost use Rattle.sheet.specs.Rules.{all_below, body_of};
 
+use crate::held::held;
 use guide::Guide;
+use guide::each::join_each;
 use measure::Measure;
 use queue::entry::Entry;
 use sheet::rule::Rule;
 
 // The weight of a rule: its effort joined with the weights of its body.
 fn weight_of<W: Measure>(rule: &Rule, weights: &[W]) -> W
-    requires { all_below (length weights.now) (body_of rule.now) ≡ true }
     ensures { result ≡ rule_weight W.Measure.ops rule.now weights.now }
 {
-    let mut weight = W::effort(rule.cost);
-    for fact in rule.body() {
-        weight = weight.join(weights[*fact as usize]);
-    }
-    weight
+    join_each(
+        W::effort(rule.cost),
+        rule.body(),
+        |fact| held(weights, fact),
+    )
 }
 
 // The entry of a rule: its weight, and that joined with the rest of its head.
@@ -27,7 +27,6 @@ pub(crate) fn entry_of<W: Measure, G: Guide<W>>(
     weights: &[W],
     guide: &G,
 ) -> Entry<W>
-    requires { all_below (length weights.now) (body_of rule.now) ≡ true }
     ensures { result ≡ rule_entry W.Measure.ops (G.Guide.rest guide.now) rule.now number weights.now }
 {
     let weight = weight_of(rule, weights);

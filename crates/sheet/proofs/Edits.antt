@@ -1,11 +1,10 @@
 -- The answers of the edits, case by case.
-use Rattle.std.proofs.Common.{◌≡◌, ℕ, suc, ◌-◌, ◌<◌, ◌≤◌, min, true, false, ltb, List, [], ◌∷◌, ◌++◌, length, take, drop, replicate, refl, ◌∙◌, arith}
-use Rattle.std.proofs.lemmas.Bool.{cond-true, cond-false, lt-ltb, le-ltb}
+use Rattle.std.proofs.Common.{◌≡◌, ℕ, suc, ◌-◌, ◌<◌, ◌≤◌, min, List, [], ◌∷◌, ◌++◌, length, take, drop, replicate, refl, arith}
 use Rattle.std.proofs.lemmas.Bool.Decides.{nat_tests}
-use Rattle.sheet.specs.declared.slot.Slot.{Slot}
-use Rattle.sheet.specs.Refusals.{Answer, accepted, refused}
-use Rattle.sheet.specs.Slots.{count, free, rule_at}
-use Rattle.sheet.specs.Edits.{body_answer, cost_answer, enter_answer, standing_answer}
+use Rattle.sheet.specs.Slots.{Slot}
+use Rattle.sheet.specs.Refusals.{accepted, refused}
+use Rattle.sheet.specs.Slots.{count, free}
+use Rattle.sheet.specs.Edits.{body_answer, cost_answer, enter_answer}
 
 pub body_fits : (n : ℕ) → accepted tt ≡ body_answer n → n ≤ 4
 body_fits n e = grind (arith, nat_tests)
@@ -19,20 +18,6 @@ module _ (xs : List Slot) (body : List ℕ) (cost : ℕ) (b : length body ≤ 4)
 
   pub enter_fits : 0 < free xs → enter_answer xs body cost ≡ accepted (count xs)
   enter_fits f = grind (arith, nat_tests)
-
-module _ {A : Type 0} (xs : List Slot) (n : ℕ) (rest : Answer A) where
-  pub standing_unknown : count xs ≤ n → standing_answer xs n rest ≡ refused 2 []
-  standing_unknown h = cond-false (ltb n (count xs)) _ _ (le-ltb n (count xs) h)
-
-  pub standing_struck : n < count xs → (rule_at xs n).struck ≡ true → standing_answer xs n rest ≡ refused 3 []
-  standing_struck h s = cond-true (ltb n (count xs)) _ _ (lt-ltb n (count xs) h) ∙ cond-true (rule_at xs n).struck _ _ s
-
-  pub standing_here : n < count xs → (rule_at xs n).struck ≡ false → standing_answer xs n rest ≡ rest
-  standing_here h s = cond-true (ltb n (count xs)) _ _ (lt-ltb n (count xs) h) ∙ cond-false (rule_at xs n).struck _ _ s
-
--- the rule that an accepted finding answers is entered
-pub standing_within : {A : Type 0} (xs : List Slot) (n : ℕ) (x : A) (rest : Answer A) → accepted x ≡ standing_answer xs n rest → n < count xs
-standing_within xs n x rest e = grind (arith, nat_tests)
 
 -- the places of a new rule: the body as far as it goes, and 0 beyond
 pub places : (b : List ℕ) → take (min (length b) 4 - 0) b ++ drop (min (length b) 4 - 0) (0 ∷ 0 ∷ 0 ∷ 0 ∷ []) ≡ take 4 (b ++ replicate 4 0)

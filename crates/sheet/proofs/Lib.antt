@@ -1,4 +1,3 @@
-mod Counts
 mod Entered
 pub mod Edits
 mod Passing

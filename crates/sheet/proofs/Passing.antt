@@ -1,40 +1,27 @@
 -- Going through the slots for a passing.
-use Rattle.std.proofs.Common.{◌≡◌, ℕ, suc, ◌+◌, ◌-◌, ◌<◌, ◌≤◌, true, false, cond, ◌&&◌, ◌||◌, eqb, ltb, List, [], ◌∷◌, length, get_or, take, drop, sym, refl, ap, ◌∙◌, ⊎_elim, add-one, arith, length-take}
-use Rattle.std.proofs.lemmas.List.{at_drop_more, take-take}
+use Rattle.std.proofs.Common.{◌≡◌, ℕ, suc, ◌+◌, ◌-◌, ◌≤◌, true, ◌&&◌, ◌||◌, eqb, ltb, List, [], ◌∷◌, length, take, sym, refl, ap, ◌∙◌, ⊎_elim, arith, length-take}
+use Rattle.std.proofs.lemmas.List.{take-take}
 use Rattle.std.proofs.lemmas.Bool.{cond-true, cond-false, cases_Bool, or_from, ne_eqb, le-ltb}
-use Rattle.sheet.specs.declared.rule.Rule.{Rule}
-use Rattle.sheet.specs.declared.slot.Slot.{Slot}
-use Rattle.sheet.specs.declared.slot.Slot.TheVariants.{Empty, Full}
+use Rattle.sheet.specs.Slots.{Slot}
+use Rattle.std.specs.Prelude.{None, Some}
 use Rattle.sheet.specs.Refusals.{accepted, refused, verdict, a_rule}
 use Rattle.sheet.specs.Rules.{within}
 use Rattle.sheet.specs.Slots.{used, fulls, count, passes}
 use Rattle.sheet.specs.Passing.{scan, pass_answer}
 use Rattle.sheet.proofs.Entered.{fulls_bound}
 
-module _ (n : ℕ) (xs : List Slot) (i : ℕ) (h : i < length xs) where
-  pub scan_empty : get_or xs i Empty ≡ Empty → scan n i (drop i xs) ≡ accepted i
-  scan_empty e = at_drop_more (scan n i) xs i Empty h ∙ ap (λ s. scan n i (s ∷ drop (i + 1) xs)) e
-
-  scan_full : (r : Rule) → get_or xs i Empty ≡ Full r → scan n i (drop i xs) ≡ cond (within n r) (scan n (suc i) (drop (i + 1) xs)) (refused 9 (a_rule i ∷ []))
-  scan_full r e = at_drop_more (scan n i) xs i Empty h ∙ ap (λ s. scan n i (s ∷ drop (i + 1) xs)) e
-
-  pub scan_within : (r : Rule) → get_or xs i Empty ≡ Full r → within n r ≡ true → scan n i (drop i xs) ≡ scan n (i + 1) (drop (i + 1) xs)
-  scan_within r e w = scan_full r e ∙ cond-true (within n r) _ _ w ∙ ap (λ k. scan n k (drop (i + 1) xs)) (sym (add-one i))
-
-  pub scan_stray : (r : Rule) → get_or xs i Empty ≡ Full r → within n r ≡ false → scan n i (drop i xs) ≡ refused 9 (a_rule i ∷ [])
-  scan_stray r e w = scan_full r e ∙ cond-false (within n r) _ _ w
-
 -- An accepted scan counts the rules entered, and they keep within n facts.
 pub scan_counts : (n k m : ℕ) (xs : List Slot) → scan n k xs ≡ accepted m → (m ≡ k + fulls xs) × (passes n (take (fulls xs) xs) ≡ true)
 scan_counts n k m [] e = (let f : m ≡ k = cc in omega arith, refl)
-scan_counts n k m (Empty ∷ xs) e = (let f : m ≡ k = cc in omega arith, refl)
-scan_counts n k m (Full r ∷ xs) e =
-    ⊎_elim {C = (m ≡ k + suc (fulls xs)) × ((within n r && passes n (take (fulls xs) xs)) ≡ true)}
+scan_counts n k m (None ∷ xs) e = (let f : m ≡ k = cc in omega arith, refl)
+scan_counts n k m (Some r ∷ xs) e =
+    let one : 1 + fulls xs ≡ suc (fulls xs) = omega arith in
+    rw one (⊎_elim {C = (m ≡ k + suc (fulls xs)) × ((within n r && passes n (take (fulls xs) xs)) ≡ true)}
     (λ w. let f = scan_counts n (suc k) m xs (sym (cond-true (within n r) _ _ w) ∙ e) in
     (omega (arith, f.0), rw w f.1))
     (λ w. let f : refused 9 (a_rule k ∷ []) ≡ accepted m = sym (cond-false (within n r) _ _ w) ∙ e in
     let z : ◌≡◌ {A = ℕ} 0 1 = cc in absurd (omega arith))
-    (cases_Bool (within n r))
+    (cases_Bool (within n r)))
 
 -- The rules entered are those of the slots in use.
 pub entered_slots : (xs : List Slot) → take (fulls (used xs)) (used xs) ≡ take (count xs) xs

@@ -1,7 +1,7 @@
 -- Passing a sheet: what is answered, and what the view then shows.
 use Rattle.std.specs.Prelude.{ℕ, suc, cond, ◌||◌, List, [], ◌∷◌, take, ◌==◌, nat_lt}
-use Rattle.sheet.specs.declared.slot.Slot.{Slot}
-use Rattle.sheet.specs.declared.slot.Slot.TheVariants.{Empty, Full}
+use Rattle.sheet.specs.Slots.{Slot}
+use Rattle.std.specs.Prelude.{None, Some}
 use Rattle.sheet.specs.declared.passed.Passed.{Passed}
 use Rattle.sheet.specs.Refusals.{Answer, accepted, refused, verdict, after, a_rule}
 use Rattle.sheet.specs.Rules.{within}
@@ -13,8 +13,8 @@ fact_limit = 4096
 -- Going through the slots from number k on: the number of rules entered, or the first rule that does not keep within n facts.
 abbrev pub scan : ℕ → ℕ → List Slot → Answer ℕ
 scan n k [] = accepted k
-scan n k (Empty ∷ xs) = accepted k
-scan n k (Full r ∷ xs) = cond (within n r) (scan n (suc k) xs) (refused 9 (a_rule k ∷ []))
+scan n k (None ∷ xs) = accepted k
+scan n k (Some r ∷ xs) = cond (within n r) (scan n (suc k) xs) (refused 9 (a_rule k ∷ []))
 
 abbrev pub pass_answer : List Slot → ℕ → Answer (Unit {0})
 pass_answer xs n =

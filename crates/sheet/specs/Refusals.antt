@@ -1,5 +1,5 @@
 -- Refusals: the number of each, and the values told with it.
-use Rattle.std.specs.Prelude.{ℕ, List, [], ◌∷◌, Ok, Err, Result}
+use Rattle.std.specs.Prelude.{ℕ, List, [], ◌∷◌, ◌++◌, Ok, Err, Result, codes, decimal}
 use Rattle.sheet.specs.declared.refusal.Misfit.{Misfit}
 use Rattle.sheet.specs.declared.refusal.Refusal.{Refusal}
 use Rattle.sheet.specs.declared.refusal.Misfit.TheVariants as misfit
@@ -53,6 +53,34 @@ told (refusal.OutOfReach c t) = closed c ∷ taken t ∷ []
 told refusal.Cut = []
 told refusal.Number = []
 told refusal.Tail = []
+
+-- What is printed of the values told.
+abbrev misfit_text : Misfit → List ℕ
+misfit_text (misfit.Target f) = codes " target " ++ decimal f
+misfit_text (misfit.Rule r) = codes " rule " ++ decimal r
+
+abbrev told_text : Refusal → List ℕ
+told_text (refusal.Stray r) = codes " rule " ++ decimal r
+told_text (refusal.Map f) = codes " fact " ++ decimal f
+told_text (refusal.Unfit m) = misfit_text m
+told_text (refusal.OutOfReach c t) = codes " closed " ++ decimal c ++ codes " taken " ++ decimal t
+told_text refusal.Slots = []
+told_text refusal.Unknown = []
+told_text refusal.Struck = []
+told_text refusal.Used = []
+told_text refusal.Body = []
+told_text refusal.Cost = []
+told_text refusal.Full = []
+told_text refusal.Facts = []
+told_text refusal.Target = []
+told_text refusal.Short = []
+told_text refusal.Cut = []
+told_text refusal.Number = []
+told_text refusal.Tail = []
+
+-- A refusal as text, as bytes: its number, and what it tells.
+abbrev pub text : Refusal → List ℕ
+text e = codes "refused " ++ decimal (number e) ++ told_text e
 
 -- What a call answers: accepted with a value, or refused with a number and the values told.
 pub data Answer (A : Type 0) : Type 0 where

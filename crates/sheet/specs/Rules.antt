@@ -1,5 +1,6 @@
 -- Rules: the record that a slot holds, and the inference that it is read as.
-use Rattle.std.specs.Prelude.{ℕ, min, Bool, true, false, ◌&&◌, ◌||◌, List, [], ◌∷◌, ◌++◌, length, take, replicate, nat_lt}
+use Rattle.std.specs.Prelude.{ℕ, min, Bool, true, false, ◌&&◌, ◌||◌, List, ◌++◌, length, take, replicate, nat_lt}
+use Rattle.std.specs.List.{list_all}
 use Rattle.measure.specs.Ops.{cost_limit}
 use Rattle.sheet.specs.declared.rule.Rule.{Rule}
 
@@ -27,8 +28,7 @@ abbrev pub made : ℕ → List ℕ → ℕ → Rule
 made h b c = record { head = h; body = take body_limit (b ++ replicate body_limit 0); arity = min (length b) body_limit; cost = c; struck = false }
 
 abbrev pub all_below : ℕ → List ℕ → Bool
-all_below n [] = true
-all_below n (x ∷ xs) = nat_lt x n && all_below n xs
+all_below n xs = list_all (λ x. nat_lt x n) xs
 
 -- A rule keeps within n facts if it is struck, or its head and its body are below n.
 abbrev pub within : ℕ → Rule → Bool

@@ -1,12 +1,12 @@
 // The edits of a sheet. A refused edit changes nothing.
 ghost use Rattle.std.specs.Prelude.{◌≡◌, ℕ};
 ghost use Rattle.sheet.specs.Refusals.{answer, accepted};
-ghost use Rattle.sheet.specs.Edits.{open_answer, open_slots, body_answer, cost_answer, enter_answer, enter_slots, standing_answer, reprice_answer, reprice_slots, strike_answer, strike_slots};
+ghost use Rattle.sheet.specs.Edits.{open_answer, open_slots, body_answer, cost_answer, new_answer, room_answer, enter_answer, enter_slots, standing_answer, reprice_answer, reprice_slots, strike_answer, strike_slots};
 ghost use Rattle.sheet.specs.Slots.{rule_at};
 
 use crate::refusal::Refusal;
 use crate::rule::{BODY_LIMIT, Rule};
-use crate::slot::{SLOT_LIMIT, Slot, entered};
+use crate::slot::{SLOT_LIMIT, Slot, entered, vacant};
 use measure::COST_LIMIT;
 
 // Makes a new sheet of the slots: every one is emptied.
@@ -17,7 +17,7 @@ pub fn open(slots: &mut [Slot]) -> Result<(), Refusal>
     if slots.len() > SLOT_LIMIT {
         return Err(Refusal::Slots);
     }
-    slots.fill(Slot::Empty);
+    slots.fill(None);
     Ok(())
 }
 
@@ -31,12 +31,32 @@ pub fn check_body(arity: usize) -> Result<(), Refusal>
     Ok(())
 }
 
-// A cost over 1,000,000 is refused.
+// A cost over 1,000,000 is refused. It has its own type, limit and refusal, so one test of both would only pass these on.
 pub fn check_cost(cost: u32) -> Result<(), Refusal>
     ensures { answer result ≡ cost_answer cost }
 {
     if cost > COST_LIMIT {
         return Err(Refusal::Cost);
+    }
+    Ok(())
+}
+
+// A sheet with rules entered is refused.
+pub fn check_new(slots: &[Slot]) -> Result<(), Refusal>
+    ensures { answer result ≡ new_answer slots.now }
+{
+    if entered(slots) > 0 {
+        return Err(Refusal::Used);
+    }
+    Ok(())
+}
+
+// More rules than free slots are refused.
+pub fn check_room(slots: &[Slot], count: usize) -> Result<(), Refusal>
+    ensures { answer result ≡ room_answer slots.now count }
+{
+    if vacant(slots) < count {
+        return Err(Refusal::Full);
     }
     Ok(())
 }
@@ -52,7 +72,7 @@ pub fn enter(slots: &mut [Slot], head: u16, body: &[u16], cost: u32) -> Result<u
     if number >= slots.len().min(SLOT_LIMIT) {
         return Err(Refusal::Full);
     }
-    slots[number] = Slot::Full(Rule::new(head, body, cost));
+    slots[number] = Some(Rule::new(head, body, cost));
     Ok(number as u16)
 }
 
@@ -64,7 +84,7 @@ fn standing(slots: &[Slot], number: u16) -> Result<Rule, Refusal>
     if number >= entered(slots) {
         return Err(Refusal::Unknown);
     }
-    let Slot::Full(rule) = slots[number] else {
+    let Some(rule) = slots[number] else {
         return Err(Refusal::Unknown);
     };
     if rule.struck {
@@ -81,7 +101,7 @@ pub fn reprice(slots: &mut [Slot], number: u16, cost: u32) -> Result<(), Refusal
     let mut rule = standing(slots, number)?;
     check_cost(cost)?;
     rule.cost = cost;
-    slots[number as usize] = Slot::Full(rule);
+    slots[number as usize] = Some(rule);
     Ok(())
 }
 
@@ -92,6 +112,6 @@ pub fn strike(slots: &mut [Slot], number: u16) -> Result<(), Refusal>
 {
     let mut rule = standing(slots, number)?;
     rule.struck = true;
-    slots[number as usize] = Slot::Full(rule);
+    slots[number as usize] = Some(rule);
     Ok(())
 }

@@ -1,6 +1,8 @@
 // Why a call refuses. Each case has a number; some tell a value.
-ghost use Rattle.std.specs.Prelude.{◌≡◌};
-ghost use Rattle.sheet.specs.Refusals.{number as number_of_lem};
+ghost use Rattle.std.specs.Prelude.{◌≡◌, Some};
+ghost use Rattle.sheet.specs.Refusals.{number, text};
+
+use std::fmt;
 
 #[derive(Clone, Copy)]
 pub enum Misfit {
@@ -49,9 +51,9 @@ pub enum Refusal {
 }
 
 impl Refusal {
-    // The number of the refusal.
+    // The number by which the refusal is told; programs print it.
     pub fn number(self) -> u8
-        ensures { result ≡ number_of_lem self }
+        ensures { result ≡ number self }
     {
         match self {
             Refusal::Slots => 1,
@@ -71,6 +73,25 @@ impl Refusal {
             Refusal::Cut => 15,
             Refusal::Number => 16,
             Refusal::Tail => 17,
+        }
+    }
+}
+
+// The number, and what is told with it.
+impl fmt::Display for Refusal {
+    ghost output = { λ e. Some (text e) };
+
+    fn fmt<F: fmt::Write>(&self, f: &mut fmt::Formatter<F>) -> fmt::Result {
+        let number = self.number();
+        match self {
+            Refusal::Stray(rule) => write!(f, "refused {number} rule {rule}"),
+            Refusal::Map(fact) => write!(f, "refused {number} fact {fact}"),
+            Refusal::Unfit(Misfit::Target(fact)) => write!(f, "refused {number} target {fact}"),
+            Refusal::Unfit(Misfit::Rule(rule)) => write!(f, "refused {number} rule {rule}"),
+            Refusal::OutOfReach(closed, taken) => {
+                write!(f, "refused {number} closed {closed} taken {taken}")
+            }
+            _ => write!(f, "refused {number}"),
         }
     }
 }

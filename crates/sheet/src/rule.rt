@@ -5,11 +5,12 @@ ghost use Rattle.sheet.specs.Rules.{body_of, made, within};
 // The most facts in a body.
 pub const BODY_LIMIT: usize = 4;
 
+// A record of fixed size, as it lies in a lent slot: of the body the first `arity` places count.
 #[derive(Clone, Copy)]
 pub struct Rule {
     // the fact concluded
     pub head: u16,
-    // the facts it is concluded from: the first `arity` places
+    // the facts it is concluded from
     pub body: [u16; BODY_LIMIT],
     pub arity: u8,
     pub cost: u32,
@@ -46,17 +47,6 @@ impl Rule {
     pub fn is_within(&self, facts: u16) -> bool
         ensures { result ≡ within facts self.now }
     {
-        if self.struck {
-            return true;
-        }
-        if self.head >= facts {
-            return false;
-        }
-        for fact in self.body() {
-            if *fact >= facts {
-                return false;
-            }
-        }
-        true
+        self.struck || (self.head < facts && self.body().iter().all(|fact| *fact < facts))
     }
 }

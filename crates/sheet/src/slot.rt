@@ -7,7 +7,8 @@ use crate::rule::{BODY_LIMIT, Rule};
 // A call uses this many slots at most.
 pub const SLOT_LIMIT: usize = 16_000;
 
-const EMPTY: Rule = Rule {
+// What an empty slot reads as.
+const STRUCK: Rule = Rule {
     head: 0,
     body: [0; BODY_LIMIT],
     arity: 0,
@@ -15,54 +16,37 @@ const EMPTY: Rule = Rule {
     struck: true,
 };
 
-#[derive(Clone, Copy)]
-pub enum Slot {
-    Empty,
-    Full(Rule),
-}
+// A slot holds a rule, or is empty.
+pub type Slot = Option<Rule>;
 
-impl Slot {
-    // The rule in the slot; an empty slot reads as a struck rule.
-    pub fn rule(&self) -> Rule
-        ensures { result ≡ rule_in self.now }
-    {
-        match self {
-            Slot::Empty => EMPTY,
-            Slot::Full(rule) => *rule,
-        }
-    }
+// The rule in a slot; an empty slot reads as a struck rule.
+pub fn rule_in(slot: &Slot) -> Rule
+    ensures { result ≡ rule_in slot.now }
+{
+    slot.unwrap_or(STRUCK)
 }
 
 // The slots that a call uses.
+#[tactic(auto, using(std::proofs::lemmas::List::take_min))]
 pub fn used(slots: &[Slot]) -> &[Slot]
     ensures { result.now ≡ first_slots slots.now }
 {
-    let end = slots.len().min(SLOT_LIMIT);
-    &slots[0..end]
+    &slots[..SLOT_LIMIT.min(slots.len())]
 }
 
 // The number of rules entered: of slots before the first empty one.
+#[tactic(auto, unfolding(crate::specs::Slots::count))]
 pub fn entered(slots: &[Slot]) -> usize
     ensures { result ≡ count slots.now }
 {
     let slots = used(slots);
-    for (i, slot) in slots.iter().enumerate() {
-        if let Slot::Empty = slot {
-            return i;
-        }
-    }
-    slots.len()
+    slots.iter().take_while(|slot| slot.is_some()).count()
 }
 
 // The number of free slots: so many rules can be entered.
+#[tactic(auto, unfolding(crate::specs::Slots::free))]
 pub fn vacant(slots: &[Slot]) -> usize
     ensures { result ≡ free slots.now }
 {
-    let mut vacant = 0;
-    for slot in used(slots) {
-        if let Slot::Empty = slot {
-            vacant += 1;
-        }
-    }
-    vacant
+    used(slots).iter().filter(|slot| slot.is_none()).count()
 }

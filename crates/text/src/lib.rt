@@ -1,5 +1,5 @@
-// How weights and refusals are written as text.
+// A target that was found, written as text.
 #![tactic(auto)]
 
-pub mod refusal;
-pub mod weight;
+pub mod named;
+pub mod solution;

@@ -1,5 +1,5 @@
 // A rule over groups of facts.
-ghost use Rattle.std.specs.Prelude.{◌≡◌, ◌≤◌, map as mapped, length, take};
+ghost use Rattle.std.specs.Prelude.{◌≡◌, map as mapped};
 ghost use Rattle.abstraction.specs.Fold.{group_of, fold_record, fold_slot};
 
 use sheet::rule::{BODY_LIMIT, Rule};
@@ -9,20 +9,14 @@ use sheet::slot::Slot;
 fn group(map: &[u16], fact: u16) -> u16
     ensures { result ≡ group_of map.now fact }
 {
-    let fact = fact as usize;
-    if fact < map.len() { map[fact] } else { 0 }
+    map.get(fact as usize).copied().unwrap_or(0)
 }
 
-// The groups of a body's facts; they are the first places.
-fn fold_body(body: &[u16], map: &[u16]) -> [u16; BODY_LIMIT]
-    requires { length body.now ≤ 4 }
-    ensures { take (length body.now) result ≡ mapped (group_of map.now) body.now }
+// The groups of the facts in all places of a body.
+fn groups(places: [u16; BODY_LIMIT], map: &[u16]) -> [u16; BODY_LIMIT]
+    ensures { result ≡ mapped (group_of map.now) places }
 {
-    let mut places = [0; BODY_LIMIT];
-    for (place, fact) in body.iter().enumerate() {
-        places[place] = group(map, *fact);
-    }
-    places
+    places.map(|fact| group(map, fact))
 }
 
 // The rule that has each fact's group in its place; a struck one stays as it is.
@@ -32,17 +26,14 @@ fn fold_rule(rule: &Rule, map: &[u16]) -> Rule
     if rule.struck {
         return *rule;
     }
-    let body = rule.body();
-    let places = fold_body(body, map);
-    Rule::new(group(map, rule.head), &places[0..body.len()], rule.cost)
+    let places = groups(rule.body, map);
+    let arity = rule.body().len();
+    Rule::new(group(map, rule.head), &places[0..arity], rule.cost)
 }
 
 // The slot with the rule in it folded.
 pub fn fold_slot(slot: &Slot, map: &[u16]) -> Slot
     ensures { result ≡ fold_slot (group_of map.now) slot.now }
 {
-    match slot {
-        Slot::Empty => Slot::Empty,
-        Slot::Full(rule) => Slot::Full(fold_rule(rule, map)),
-    }
+    slot.as_ref().map(|rule| fold_rule(rule, map))
 }

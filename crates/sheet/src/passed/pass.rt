@@ -43,8 +43,8 @@ fn scan(slots: &[Slot], facts: u16) -> Result<usize, Refusal>
 {
     for (i, slot) in slots.iter().enumerate() {
         match slot {
-            Slot::Empty => return Ok(i),
-            Slot::Full(rule) => {
+            None => return Ok(i),
+            Some(rule) => {
                 if !rule.is_within(facts) {
                     return Err(Refusal::Stray(i as u16));
                 }

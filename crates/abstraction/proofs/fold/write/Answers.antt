@@ -1,6 +1,6 @@
 use Rattle.std.proofs.Common.{set, ap, ◌∙◌, arith}
 use Rattle.abstraction.specs.Fold.{group_of, fold_slot}
-use Rattle.abstraction.proofs.Folding.{slots_more, slots_all}
+use Rattle.abstraction.proofs.Folding.{slots_more}
 use Rattle.abstraction.proofs.fold.write.Goals as goal
 
 pub loop-number-preserved : goal.loop-number-preserved
@@ -8,7 +8,3 @@ loop-number-preserved c =
     let i = c.loop-number.number in
     ap (set c.loop-number.second i) c.fold_slot.ensures
     ∙ slots_more (fold_slot (group_of c.args.map.now)) c.args.slots.now c.args.second.now c.loop-number.second i c.loop-number.invariant c.loop-number-test.true (omega arith)
-
-pub returns : goal.returns
-returns c =
-    slots_all (fold_slot (group_of c.args.map.now)) c.args.slots.now c.args.second.now c.loop-number.second c.loop-number.number c.loop-number.invariant (omega arith)

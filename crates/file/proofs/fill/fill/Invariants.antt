@@ -1,11 +1,11 @@
-use Rattle.std.proofs.Common.{◌≡◌, true, is_ok}
-use Rattle.file.specs.Rules.{rules}
-use Rattle.file.specs.Entering.{filled_by}
-use Rattle.file.proofs.Filled.{so_far}
+use Rattle.std.proofs.Common.{◌≡◌, List, length, Ok}
+use Rattle.file.specs.Rules.{Entry}
+use Rattle.file.specs.Whole.{closing}
+use Rattle.file.specs.Entering.{filled}
+use Rattle.file.proofs.Filled.{Due}
 use Rattle.file.proofs.fill.fill.Given as goal
 
 abbrev pub invariant-loop-slot : goal.invariant-loop-slot
 invariant-loop-slot l =
-    is_ok (rules l.size l.initial.wanted l.initial.left) ≡ true →
-    (is_ok (rules l.size l.wanted l.left) ≡ true) ×
-    (so_far (rules l.size l.wanted l.left) l.slot-index l.slots ≡ filled_by (rules l.size l.initial.wanted l.initial.left) l.initial.slots)
+    (l.reader.size ≡ l.initial.reader.size) ×
+    ((es : List Entry) → Ok es ≡ closing l.initial.reader.size (length es) l.initial.reader.left.now → Due l.initial.reader.size l.reader.left.now l.slot-index l.slots (filled es l.initial.slots))

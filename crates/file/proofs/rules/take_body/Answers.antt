@@ -1,14 +1,13 @@
-use Rattle.std.proofs.Common.{◌-◌, ◌<◌, length, take, ◌∙◌, arith, length-set}
-use Rattle.std.proofs.lemmas.Result.{err_from_is_err_and}
-use Rattle.file.proofs.Parted.{body_out, body_more}
+use Rattle.std.proofs.Common.{◌≡◌, Ok, ◌∙◌, rules, arith, length-set}
+use Rattle.file.specs.declared.fault.Field.TheVariants as field
+use Rattle.file.specs.Number.{short}
+use Rattle.file.specs.Rules.{taken}
+use Rattle.file.proofs.Body.{body_more}
 use Rattle.file.proofs.rules.take_body.Goals as goal
 
-pub returns-in_err-fact : goal.returns-in_err-fact
-returns-in_err-fact c =
-    let p = err_from_is_err_and c.from_residual.result c.from_residual.ensures.1 in
-    rw (p.1, p.2) (body_out c.args.size (c.args.arity - c.loop-i.i) c.loop-i.left.now (take c.loop-i.i c.loop-i.body) _ (omega arith) c.in_err-fact.ensures ∙ c.loop-i.invariant.1)
-
-pub loop-i-preserved : goal.loop-i-preserved
-loop-i-preserved c =
-    let h : c.loop-i.i < length c.loop-i.body = omega arith in
-    (simp length-set c.loop-i.invariant.0, body_more c.args.size c.args.arity c.loop-i.i c.loop-i.left.now c.loop-i.body _ _ (omega arith) h c.in_ok-fact.ensures ∙ c.loop-i.invariant.1)
+pub loop-fact-preserved : goal.loop-fact-preserved
+loop-fact-preserved c =
+    let l = c.loop-fact in
+    let x = c.in_ok-fact.field-0 in
+    let got : Ok (x, c.field.new.self.left.now) ≡ taken field.Body short c.args.reader.now.size l.reader.left.now = search rules in
+    (search rules, rw (length-set l.body l.fact-index x) (body_more _ _ _ _ l.body _ _ (omega arith) (omega arith) got ∙ l.invariant.1))

@@ -4,18 +4,19 @@ use Rattle.queue.specs.declared.run.Reply.TheVariants.{Added, Taken}
 use Rattle.queue.proofs.Runs.{put_steps, take_steps}
 use Rattle.queue.proofs.run.answer.Goals as goal
 
-pub returns-in-Ok : goal.returns-in-Ok
-returns-in-Ok g c =
+pub returns-in-Ok-clause-steps : goal.returns-in-Ok-clause-steps
+returns-in-Ok-clause-steps g c =
     let leb = g.T.Order.leb in
-    let xs = c.args.queue.now in
-    let ys = c.put.new.queue in
-    subst (λ o. Step leb o xs c.args.count ys Added c.in-Ok.more) (sym c.in-Put.is)
-    (put_steps leb xs c.args.count c.requires c.in-Put.x ys c.in-Ok.more c.in-Ok.ensures)
+    let q = c.args.queue.now in
+    let r = c.put.new.self in
+    subst (λ o. Step leb o q.places.now q.count r.places.now Added r.count) (sym c.in-Put.is)
+    (put_steps leb q.places.now q.count (q.within, q.ordered) c.in-Put.x r.places.now r.count c.in-Ok.ensures.puts)
 
-pub returns-in-Some : goal.returns-in-Some
-returns-in-Some g c =
+pub returns-in-Some-clause-steps : goal.returns-in-Some-clause-steps
+returns-in-Some-clause-steps g c =
     let leb = g.T.Order.leb in
-    let xs = c.args.queue.now in
-    let ys = c.take.new.queue in
-    subst (λ o. Step leb o xs c.args.count ys (Taken c.in-Some.x) (c.args.count - 1)) (sym c.in-Take.is)
-    (take_steps leb xs c.args.count c.requires c.in-Some.x ys c.in-Some.ensures)
+    let q = c.args.queue.now in
+    let r = c.take.new.self in
+    let e = c.in-Some.ensures.takes in
+    rw e.1 (subst (λ o. Step leb o q.places.now q.count r.places.now (Taken c.in-Some.x) (q.count - 1)) (sym c.in-Take.is)
+    (take_steps leb q.places.now q.count (q.within, q.ordered) c.in-Some.x r.places.now e.0))

@@ -1,26 +1,10 @@
-use Rattle.std.proofs.Common.{length, sym, ap, ◌∙◌}
-use Rattle.sheet.specs.Refusals.{after}
-use Rattle.replay.specs.Run.{Board, Lengths}
-use Rattle.replay.proofs.Starting.{start_small}
-use Rattle.replay.proofs.Lawful.{last, lawful}
+use Rattle.std.proofs.Common.{ap}
+use Rattle.replay.proofs.Starting.{start_small, start_opens}
+use Rattle.replay.proofs.Lawful.{lawful}
 use Rattle.replay.proofs.run.run.Goals as goal
 
-pub returns : goal.returns
-returns g c =
-    let v = c.run_in.ensures in
-    let f = c.args.columns in
-    let long : Lengths = record { weights = length f.weights.now; reasons = length f.reasons.now; line = length f.line.now; queue = length f.queue.now; work = length f.work.now } in
-    let b : Board g.row.W.Denot = record { slots = c.args.slots.now; weights = f.weights.now; reasons = f.reasons.now; line = f.line.now } in
-    let m = g.W.Measure.ops in
-    let floor = g.G.Guide.floor in
-    let rest = g.G.Guide.rest in
-    record {
-      answered = v.answered;
-      leaves = v.leaves;
-      replies = v.replies;
-      queues = v.queues;
-      works = v.works;
-      edits = λ e.
-          lawful m long floor rest b c.args.calls.now (start_small _ _ _ (sym e)) _ e _ _ v.replies _
-          (ap (λ z. z.slots) (v.leaves ∙ ap (λ a. after a (λ _. last m long floor rest b c.args.calls.now) b) e));
-    }
+pub returns-clause-edits : goal.returns-clause-edits
+returns-clause-edits g c =
+    let e = c.in_ok-start.ensures.answered in
+    let v = c.make_calls.ensures in
+    λ _. lawful _ _ _ _ _ (start_small _ _ _ e) _ (start_opens _ _ _ _ e c.in_ok-start.ensures.left) _ _ _ v.replies _ (ap (λ z. z.slots) v.leaves)

@@ -1,10 +1,12 @@
-use Rattle.std.proofs.Common.{◌≡◌, ℕ, ◌-◌, ◌<◌, true, cond, eqb, length, get_or, set, replicate, sym, refl, ap, ◌∙◌, subst, inl, inr, arith, length-set, rules}
-use Rattle.std.proofs.lemmas.List.{get_or-replicate, get_or-set_same, get_or-set_other, length-replicate}
+use Rattle.std.specs.List.{AllByRecursion}
+use Rattle.std.proofs.Common.{List, subst, ◌≤◌, ◌≡◌, ℕ, ◌-◌, ◌<◌, cond, eqb, length, get_or, set, replicate, reverse, sym, refl, ap, ◌∙◌, inl, inr, arith, length-set, rules}
+use Rattle.std.proofs.lemmas.Iterator.Adapters.{YieldsList-from_rev_slice}
+use Rattle.std.proofs.lemmas.Iterator.Consumers.{YieldsList-turn}
+use Rattle.std.proofs.lemmas.List.{get_or_read, get_or-replicate, get_or-reverse, get_or-set_same, get_or-set_other, length-replicate, length-reverse, length_push}
 use Rattle.std.proofs.ByRecursion.{All-get_or}
 use Rattle.std.proofs.lemmas.Bool.{cases_eq, eq-eqb, ne_eqb}
-use Rattle.sheet.specs.Slots.{rule_at, passes}
-use Rattle.sheet.proofs.Within.{passes_at, within_parts}
-use Rattle.search.proofs.Unwinding.{drawing_start, drawing_next, drawing_end}
+use Rattle.sheet.specs.Slots.{rule_at}
+use Rattle.search.proofs.Unwinding.{drawing_start, drawing_passed, drawing_more}
 use Rattle.search.proofs.line.unwind.Goals as goal
 
 -- a column of zeros with a one at the target
@@ -15,48 +17,44 @@ one_mark n target f t h =
       | inr e ↦ rw (ne_eqb target f (λ q. e (sym q))) (get_or-set_other (replicate n 0) target f 1 0 e ∙ get_or-replicate n f 0 0 h)
     ]
 
-pub loop-left-init : goal.loop-left-init
-loop-left-init c =
+-- what holds of each rule in closing order holds of the one at a turn
+at_turn : (order : List ℕ) (P : ℕ → Type 0) (i r : ℕ) → i < length (reverse order) → r ≡ get_or (reverse order) i r → AllByRecursion P order → P r
+at_turn order P i r l is all =
+    let h : i < length order = omega (arith, l, length-reverse order) in
+    let e : r ≡ get_or order (length order - 1 - i) 0 = get_or_read (reverse order) i r l is 0 ∙ get_or-reverse order i 0 h in
+    subst P (sym e) (All-get_or P order (length order - 1 - i) 0 (omega (arith, h)) all)
+
+pub loop-number-init : goal.loop-number-init
+loop-number-init c =
     let n = length c.args.needed.now in
     let e : c.fill.new.self ≡ replicate n 0 = search rules in
     drawing_start _ _ _ _ _ (λ f h.
     ap (λ l. get_or (set l c.args.target 1) f 0) e
-    ∙ one_mark n c.args.target f c.requires.known.0 (omega (arith, h, length-set c.fill.new.self c.args.target 1, c.fill.ensures.len)))
+    ∙ one_mark n c.args.target f (omega (arith, c.requires.known.0, c.requires.known.1)) (omega (arith, h, length-set c.fill.new.self c.args.target 1, c.fill.ensures.len)))
 
-pub unwind_rule-len-requires : goal.unwind_rule-len-requires
-unwind_rule-len-requires c =
-    let i = c.loop-left.left - 1 in
-    let n = length c.args.needed.now in
-    let d = c.loop-left.invariant in
-    let s = All-get_or _ c.args.order.now i 0 (omega (arith, d.fewer, c.loop-left-test.true)) c.requires.stand in
-    let k : length c.loop-left.needed ≡ n = c.loop-left.auto.needed ∙ length-set c.fill.new.self c.args.target 1 ∙ c.fill.ensures.len in
-    record {
-      known = (s.0, omega (arith, d.fewer, c.loop-left-test.true, c.requires.known.1, c.loop-left.auto.line));
-      within = subst (λ (z : ℕ). passes z c.args.slots.now ≡ true) (sym k) c.requires.within;
-      stands = s.1;
-    }
+pub loop-number-preserved-then-needed-rule-ne1 : goal.loop-number-preserved-then-needed-rule-ne1
+loop-number-preserved-then-needed-rule-ne1 c =
+    let xs = c.args.sheet.now.slots.now in
+    let d = c.loop-number.invariant in
+    let r = c.in-Some.number.now in
+    let t = YieldsList-turn (YieldsList-from_rev_slice c.args.order.now cc) c.loop-number.yielded _ c.loop-number.yielded_by _ _ c.in-Some.number c.in-Some.is c.next.ensures.steps in
+    let s = at_turn c.args.order.now _ _ r t.0 t.1 c.requires.stand in
+    let k = c.rule_of-rule.ensures in
+    let h : (rule_at xs r).head < length c.loop-number.needed = rw (← k.is) (omega (arith, (k.known (rw k.is s.1)).0, c.loop-number.auto.needed, length-set c.fill.new.self c.args.target 1, c.fill.ensures.len, c.requires.known.1)) in
+    let long : length (reverse c.args.order.now) ≤ length c.loop-number.line = omega (arith, length-reverse c.args.order.now, c.requires.known.2, c.loop-number.auto.line) in
+    rw (length_push c.loop-number.yielded c.in-Some.number)
+    (drawing_passed xs (reverse c.args.order.now) c.args.target _ _ _ _ _ d t.0 long r t.1 h (rw k.is at c.if-needed-rule-ne1.true))
 
-pub loop-left-preserved : goal.loop-left-preserved
-loop-left-preserved c =
-    let xs = c.args.slots.now in
-    let i = c.loop-left.left - 1 in
-    let n = length c.args.needed.now in
-    let d = c.loop-left.invariant in
-    let s = All-get_or _ c.args.order.now i 0 (omega (arith, d.fewer, c.loop-left-test.true)) c.requires.stand in
-    let k : length c.loop-left.needed ≡ n = c.loop-left.auto.needed ∙ length-set c.fill.new.self c.args.target 1 ∙ c.fill.ensures.len in
-    let r = get_or c.args.order.now i 0 in
-    let h = (within_parts n (rule_at xs r) (passes_at n xs r c.requires.within s.0).1 s.1).0 in
-    let u = c.unwind_rule-len.ensures in
-    drawing_next xs c.args.order.now c.args.target c.loop-left.needed c.loop-left.line c.args.line.now c.loop-left.len c.loop-left.left
-    d c.loop-left-test.true (omega (arith, c.requires.known.1, c.loop-left.auto.line))
-    c.unwind_rule-len.new.needed c.unwind_rule-len.new.line c.unwind_rule-len.result
-    (omega (arith, h, k)) c.unwind_rule-len.auto.needed u.counts u.written u.marks
-
-pub returns : goal.returns
-returns c =
-    let d = c.loop-left.invariant in
-    record {
-      few = omega (arith, d.fewer);
-      written = drawing_end _ _ _ _ _ _ _ _ (let z : c.loop-left.left ≡ 0 = omega (arith, c.loop-left-test.false) in z) d;
-      beyond = d.beyond;
-    }
+pub loop-number-preserved : goal.loop-number-preserved
+loop-number-preserved c =
+    let xs = c.args.sheet.now.slots.now in
+    let d = c.loop-number.invariant in
+    let r = c.in-Some.number.now in
+    let t = YieldsList-turn (YieldsList-from_rev_slice c.args.order.now cc) c.loop-number.yielded _ c.loop-number.yielded_by _ _ c.in-Some.number c.in-Some.is c.next.ensures.steps in
+    let s = at_turn c.args.order.now _ _ r t.0 t.1 c.requires.stand in
+    let k = c.rule_of-rule.ensures in
+    let h : (rule_at xs r).head < length c.loop-number.needed = rw (← k.is) (omega (arith, (k.known (rw k.is s.1)).0, c.loop-number.auto.needed, length-set c.fill.new.self c.args.target 1, c.fill.ensures.len, c.requires.known.1)) in
+    let long : length (reverse c.args.order.now) ≤ length c.loop-number.line = omega (arith, length-reverse c.args.order.now, c.requires.known.2, c.loop-number.auto.line) in
+    rw (length_push c.loop-number.yielded c.in-Some.number)
+    (drawing_more xs (reverse c.args.order.now) c.args.target _ _ _ _ _ d t.0 long r t.1 _ h (rw k.is at c.if-needed-rule-ne1.false) c.mark.auto.needed
+    (rw (c.body.ensures, k.is) at c.mark.ensures))

@@ -5,11 +5,15 @@ use Rattle.search.proofs.visit.walk.Given as goal
 
 abbrev pub invariant-loop-link : goal.invariant-loop-link
 invariant-loop-link g l =
-    (last_below l.slots l.fact l.link ≡ l.link)
-    × (l.link ≤ 4 * length l.slots)
-    × ((r : ℕ) → get_or l.missing r 0 + uses l.slots l.fact r (4 * length l.slots) ≡ get_or l.initial.missing r 0 + uses l.slots l.fact r l.link)
-    × (l.count + unready l.missing ≡ l.initial.count + unready l.initial.missing)
-    × ((taken : List ℕ) → Ready g.W.Measure.ops (g.G.Guide.rest l.guide) l.slots l.weights taken l.initial.missing l.initial.queue l.initial.count → Ready g.W.Measure.ops (g.G.Guide.rest l.guide) l.slots l.weights taken l.missing l.queue l.count)
+    let xs = l.chains.sheet.slots.now in
+    record {
+      same : (l.queue.places.ghost_name ≡ l.initial.queue.places.ghost_name) × (length l.queue.places.now ≡ length l.initial.queue.places.now);
+      fixed : last_below xs l.fact l.link ≡ l.link;
+      within : l.link ≤ 4 * length xs;
+      left : (r : ℕ) → get_or l.missing r 0 + uses xs l.fact r (4 * length xs) ≡ get_or l.initial.missing r 0 + uses xs l.fact r l.link;
+      total : l.queue.count + unready l.missing ≡ l.initial.queue.count + unready l.initial.missing;
+      ready : (taken : List ℕ) → Ready g.W.Measure.ops (g.G.Guide.rest l.guide) xs l.closed.weights.now taken l.initial.missing l.initial.queue.places.now l.initial.queue.count → Ready g.W.Measure.ops (g.G.Guide.rest l.guide) xs l.closed.weights.now taken l.missing l.queue.places.now l.queue.count;
+    }
 
 abbrev pub decreases-loop-link : goal.decreases-loop-link
 decreases-loop-link g l = l.link

@@ -1,5 +1,5 @@
 use Rattle.std.proofs.Common.{set, sym, ap, arith}
-use Rattle.sheet.specs.declared.slot.Slot.TheVariants.{Full}
+use Rattle.std.specs.Prelude.{Some}
 use Rattle.sheet.specs.Refusals.{after}
 use Rattle.sheet.specs.Rules.{made}
 use Rattle.sheet.proofs.Edits.{body_fits, cost_fits, enter_full, enter_fits}
@@ -12,7 +12,7 @@ returns-then-number-min c =
     let b = body_fits _ c.in_ok-check_body.ensures in
     let p = cost_fits _ c.in_ok-check_cost.ensures in
     let e = enter_full xs c.args.body.now c.args.cost b p (none_free xs (omega arith)) in
-    record { answered = sym e; left = sym (ap (λ a. after a (λ n. set xs n (Full (made c.args.head c.args.body.now c.args.cost))) xs) e) }
+    record { answered = sym e; left = sym (ap (λ a. after a (λ n. set xs n (Some (made c.args.head c.args.body.now c.args.cost))) xs) e) }
 
 pub returns : goal.returns
 returns c =
@@ -20,4 +20,4 @@ returns c =
     let b = body_fits _ c.in_ok-check_body.ensures in
     let p = cost_fits _ c.in_ok-check_cost.ensures in
     let e = enter_fits xs c.args.body.now c.args.cost b p (some_free xs (omega arith)) in
-    record { answered = rw c.entered-number.ensures (sym e); left = rw (c.entered-number.ensures, c.new.ensures) (sym (ap (λ a. after a (λ n. set xs n (Full (made c.args.head c.args.body.now c.args.cost))) xs) e)) }
+    record { answered = rw c.entered-number.ensures (sym e); left = rw (c.entered-number.ensures, c.new.ensures) (sym (ap (λ a. after a (λ n. set xs n (Some (made c.args.head c.args.body.now c.args.cost))) xs) e)) }

@@ -1,0 +1,66 @@
+// The columns of a search.
+ghost use Rattle.std.specs.Prelude.{◌≡◌, take, IfOk};
+ghost use Rattle.memory.specs.Columns.{HasRoom, Lends};
+
+use measure::Measure;
+use queue::entry::Entry;
+use search::columns::{Columns, Found};
+use std::alloc::{AllocError, Global};
+
+// There is room for as many facts and rules.
+pub const FACTS: usize = 256;
+
+pub const RULES: usize = 512;
+
+pub const WORK: usize = 3 * FACTS + 5 * RULES;
+
+// The columns of a search, and the memory that they are in: a search is lent each by itself.
+#[derive(Drop)]
+pub struct OwnedColumns<W> {
+    pub weights: Vec<W>,
+    pub reasons: Vec<u16>,
+    pub line: Vec<u16>,
+    pub queue: Vec<Entry<W>>,
+    pub work: Vec<u16>,
+}
+
+impl<W: Measure> OwnedColumns<W> {
+    pub fn new(heap: Global) -> Result<OwnedColumns<W>, AllocError>
+        ensures { IfOk result HasRoom }
+    {
+        let none = W::nothing();
+        let entry = Entry {
+            priority: none,
+            weight: none,
+            rule: 0,
+        };
+        Ok(OwnedColumns {
+            weights: vec![in heap; none; FACTS]?,
+            reasons: vec![in heap; 0; FACTS]?,
+            line: vec![in heap; 0; FACTS]?,
+            queue: vec![in heap; entry; RULES]?,
+            work: vec![in heap; 0; WORK]?,
+        })
+    }
+
+    // Lends the columns to a search.
+    pub fn lend(&mut self) -> Columns<'_, W>
+        ensures { Lends self.old result }
+    {
+        Columns {
+            weights: &mut self.weights,
+            reasons: &mut self.reasons,
+            line: &mut self.line,
+            queue: &mut self.queue,
+            work: &mut self.work,
+        }
+    }
+
+    // The rules of the line of a target that was found, in order.
+    pub fn line_of(&self, found: &Found<W>) -> &[u16]
+        ensures { result.now ≡ take found.now.line self.now.line.items }
+    {
+        let n = self.line.len().min(usize::from(found.line));
+        &self.line[..n]
+    }
+}

@@ -1,0 +1,6 @@
+// Memory of the programs: the input, and the columns of a search.
+#![tactic(auto)]
+
+pub mod columns;
+pub mod failure;
+pub mod input;

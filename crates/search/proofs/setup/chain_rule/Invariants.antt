@@ -1,6 +1,0 @@
-use Rattle.std.proofs.Common.{◌+◌, ◌*◌}
-use Rattle.search.specs.Chains.{Chained}
-use Rattle.search.proofs.setup.chain_rule.Given as goal
-
-abbrev pub invariant-loop-i : goal.invariant-loop-i
-invariant-loop-i l = Chained l.slots l.heads l.next (4 * l.number + l.i)
