@@ -37,6 +37,7 @@ pub(crate) fn write(slots: &[Slot], map: &[u16], second: &mut [Slot])
     requires { length slots.now ≤ length second.old }
     ensures { second.new ≡ folded (group_of map.now) slots.now second.old }
 {
+    // by index: after a loop over an adapter of `iter_mut` the check knows no element
     for (number, slot) in slots.iter().enumerate() {
         second[number] = fold_slot(slot, map);
     }

@@ -1,3 +1,4 @@
+// Rules linked by their heads, as search::chain chains places: what is linked, and what is known of it, differ.
 // Before contexts are computed: the standing rules, linked by their heads.
 // The columns are lent as numbers: a link is 0 at the end, or a rule's number + 1.
 ghost use Rattle.std.specs.Prelude.{◌≡◌, ◌≤◌, length};
@@ -28,6 +29,7 @@ pub(crate) fn link(sheet: &Passed, first: &mut [u16], next: &mut [u16])
     ensures { Linked sheet.now.slots.now first.new next.new (length sheet.now.slots.now) }
 {
     first.fill(0);
+    // by index: after a loop over an adapter of `iter_mut` the check knows no element
     for (number, slot) in sheet.slots().iter().enumerate() {
         let rule = rule_in(slot);
         if rule.struck {

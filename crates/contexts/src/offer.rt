@@ -3,6 +3,7 @@ ghost use Rattle.std.specs.Prelude.{◌≡◌, ◌+◌, ◌<◌, ◌≤◌, fals
 ghost use Rattle.contexts.specs.Offers.{Offering, Follows};
 ghost use Rattle.guide.specs.Weighted.{weighted};
 ghost use Rattle.search.specs.Entries.{held};
+ghost use Rattle.search.specs.Same.{SamePlaces};
 ghost use Rattle.sheet.specs.Slots.{rule_at};
 
 use crate::link::Links;
@@ -16,8 +17,7 @@ use sheet::slot::rule_in;
 pub(crate) fn offer<W: Measure>(group: u16, weight: W, done: &[u16], queue: &mut Queue<Entry<W>>)
     requires known { group < length done.now }
     requires room { queue.old.count < length queue.old.places.now }
-    ensures same { queue.new.places.ghost_name ≡ queue.old.places.ghost_name }
-    ensures long { length queue.new.places.now ≡ length queue.old.places.now }
+    ensures same { SamePlaces queue.old.places queue.new.places }
     ensures few { queue.new.count ≤ queue.old.count + 1 }
     ensures offers { Offering done.now group weight (take queue.old.count queue.old.places.now) (take queue.new.count queue.new.places.now) }
 {
@@ -43,8 +43,7 @@ pub(crate) fn offer_places<W: Measure>(
     requires known { (number < length links.now.sheet.slots.now) × (length done.now ≡ links.now.sheet.facts) }
     requires stands { (rule_at links.now.sheet.slots.now number).struck ≡ false }
     requires room { queue.old.count + 4 ≤ length queue.old.places.now }
-    ensures same { queue.new.places.ghost_name ≡ queue.old.places.ghost_name }
-    ensures long { length queue.new.places.now ≡ length queue.old.places.now }
+    ensures same { SamePlaces queue.old.places queue.new.places }
     ensures few { queue.new.count ≤ queue.old.count + 4 }
     ensures follows { Follows W.Measure.ops (held W.Measure.ops links.now.floors.now) (weighted W.Measure.ops links.now.sheet.slots.now) links.now.sheet.facts done.now (rule_at links.now.sheet.slots.now number).head weight (λ k _. k ≡ number) (take queue.old.count queue.old.places.now) (take queue.new.count queue.new.places.now) }
 {

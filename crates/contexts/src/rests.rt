@@ -57,6 +57,7 @@ fn fill<W: Measure>(
     let facts = rests.len();
     let (first, work) = work.split_at_mut(facts);
     let (done, next) = work.split_at_mut(facts);
+    // not fill, which asks that a clone of a weight equals it: no measure says that
     for rest in rests.iter_mut() {
         *rest = W::heaviest();
     }

@@ -4,6 +4,7 @@ ghost use Rattle.contexts.specs.Links.{concludes, concluding};
 ghost use Rattle.contexts.specs.Offers.{Follows};
 ghost use Rattle.guide.specs.Weighted.{weighted};
 ghost use Rattle.search.specs.Entries.{held};
+ghost use Rattle.search.specs.Same.{SamePlaces};
 
 use crate::link::Links;
 use crate::offer::offer_places;
@@ -21,8 +22,7 @@ pub(crate) fn spread<W: Measure>(
 )
     requires known { (group < links.now.sheet.facts) × (length done.now ≡ links.now.sheet.facts) }
     requires room { queue.old.count + 4 * concluding links.now.sheet.slots.now group (length links.now.sheet.slots.now) ≤ length queue.old.places.now }
-    ensures same { queue.new.places.ghost_name ≡ queue.old.places.ghost_name }
-    ensures long { length queue.new.places.now ≡ length queue.old.places.now }
+    ensures same { SamePlaces queue.old.places queue.new.places }
     ensures few { queue.new.count ≤ queue.old.count + 4 * concluding links.now.sheet.slots.now group (length links.now.sheet.slots.now) }
     ensures follows { Follows W.Measure.ops (held W.Measure.ops links.now.floors.now) (weighted W.Measure.ops links.now.sheet.slots.now) links.now.sheet.facts done.now group weight (λ k _. concludes links.now.sheet.slots.now group k ≡ true) (take queue.old.count queue.old.places.now) (take queue.new.count queue.new.places.now) }
 {

@@ -3,9 +3,8 @@ use crate::query::{Map, Query};
 use abstraction::make::{GuideColumns, make};
 use guide::map::MapGuide;
 use measure::Measure;
-use memory::columns::{FACTS, RULES, WORK};
+use memory::columns::{FACTS, RULES, WORK, blank_entry};
 use memory::failure::Failure;
-use queue::entry::Entry;
 use sheet::passed::Passed;
 use sheet::passed::pass::pass;
 use sheet::refusal::Refusal;
@@ -32,17 +31,11 @@ impl<'a, W: Measure> Made<'a, W> {
     ) -> Result<Made<'a, W>, Failure<Refusal>> {
         let mut sheet = Passed::empty();
         pass(slots, query.facts, &mut sheet)?;
-        let none = W::nothing();
-        let entry = Entry {
-            priority: none,
-            weight: none,
-            rule: 0,
-        };
         let mut second = vec![in heap; None; RULES]?;
-        let mut floors = vec![in heap; none; FACTS]?;
-        let mut rests = vec![in heap; none; FACTS]?;
+        let mut floors = vec![in heap; W::nothing(); FACTS]?;
+        let mut rests = vec![in heap; W::nothing(); FACTS]?;
         let mut reasons = vec![in heap; 0; FACTS]?;
-        let mut queue = vec![in heap; entry; QUEUE]?;
+        let mut queue = vec![in heap; blank_entry(); QUEUE]?;
         let mut work = vec![in heap; 0; WORK]?;
         let mut columns = GuideColumns {
             second: &mut second,

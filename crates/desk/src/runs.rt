@@ -113,7 +113,7 @@ pub(crate) fn run_edits<'a, W: Measure>(
     edits: &'a [Noted],
 ) -> Result<Batch<'a, W, Blank>, AllocError> {
     let mut batch = Batch::new(heap, edits)?;
-    let mut columns = OwnedColumns::new(heap)?;
+    let mut columns = OwnedColumns::empty(heap);
     batch.run(&mut columns.lend());
     Ok(batch)
 }

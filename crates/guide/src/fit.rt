@@ -55,6 +55,7 @@ pub fn check_fit<W: Measure, G: Guide<W>>(
         return Err(Refusal::Unfit(Misfit::Target(target)));
     }
     let slots = sheet.slots();
+    // the form is fixed: the rules are gone through with their numbers
     for (number, slot) in slots.iter().enumerate() {
         if !rule_fits(&rule_in(slot), guide) {
             return Err(Refusal::Unfit(Misfit::Rule(number as u16)));

@@ -1,4 +1,4 @@
-// Hardest: the largest cost of all, from 0 to 1,000,000.
+// Hardest: the largest cost of all, from 0 to 1,000,000. It shares a trait with Total, and differs in its join and its limit.
 ghost use Rattle.std.specs.Prelude.{Some, decimal};
 ghost use Rattle.measure.specs.Hardest.{hardest_ops};
 ghost use Rattle.std.proofs.Common.{rules};

@@ -1,5 +1,5 @@
 -- The columns of a search, and the memory that they are in.
-use Rattle.std.specs.Prelude.{◌≡◌, vec_len}
+use Rattle.std.specs.Prelude.{◌≡◌, [], vec_len}
 use Rattle.memory.specs.declared.columns.OwnedColumns.{OwnedColumns}
 use Rattle.search.specs.declared.columns.Columns.{Columns}
 
@@ -10,6 +10,14 @@ pub record HasRoom {W : Type 0} (c : OwnedColumns W) : Type 0 where
   pub line : vec_len c.line ≡ 256
   pub queue : vec_len c.queue ≡ 512
   pub work : vec_len c.work ≡ 3328
+
+-- The columns have no places.
+pub record HasNone {W : Type 0} (c : OwnedColumns W) : Type 0 where
+  pub weights : c.weights.items ≡ []
+  pub reasons : c.reasons.items ≡ []
+  pub line : c.line.items ≡ []
+  pub queue : c.queue.items ≡ []
+  pub work : c.work.items ≡ []
 
 -- The columns that are lent hold what is owned.
 pub record Lends {W : Type 0} (owned : OwnedColumns W) (lent : Columns W) : Type 0 where

@@ -1,6 +1,6 @@
 // The columns of a search.
 ghost use Rattle.std.specs.Prelude.{◌≡◌, take, IfOk};
-ghost use Rattle.memory.specs.Columns.{HasRoom, Lends};
+ghost use Rattle.memory.specs.Columns.{HasRoom, HasNone, Lends};
 
 use measure::Measure;
 use queue::entry::Entry;
@@ -13,6 +13,17 @@ pub const FACTS: usize = 256;
 pub const RULES: usize = 512;
 
 pub const WORK: usize = 3 * FACTS + 5 * RULES;
+
+// What the places of a queue hold before a search.
+pub fn blank_entry<W: Measure>() -> Entry<W>
+    ensures { result ≡ record { priority = W.Measure.ops.nothing; weight = W.Measure.ops.nothing; rule = 0 } }
+{
+    Entry {
+        priority: W::nothing(),
+        weight: W::nothing(),
+        rule: 0,
+    }
+}
 
 // The columns of a search, and the memory that they are in: a search is lent each by itself.
 #[derive(Drop)]
@@ -28,19 +39,26 @@ impl<W: Measure> OwnedColumns<W> {
     pub fn new(heap: Global) -> Result<OwnedColumns<W>, AllocError>
         ensures { IfOk result HasRoom }
     {
-        let none = W::nothing();
-        let entry = Entry {
-            priority: none,
-            weight: none,
-            rule: 0,
-        };
         Ok(OwnedColumns {
-            weights: vec![in heap; none; FACTS]?,
+            weights: vec![in heap; W::nothing(); FACTS]?,
             reasons: vec![in heap; 0; FACTS]?,
             line: vec![in heap; 0; FACTS]?,
-            queue: vec![in heap; entry; RULES]?,
+            queue: vec![in heap; blank_entry(); RULES]?,
             work: vec![in heap; 0; WORK]?,
         })
+    }
+
+    // Columns of no places, for a list with no searches.
+    pub fn empty(heap: Global) -> OwnedColumns<W>
+        ensures { HasNone result }
+    {
+        OwnedColumns {
+            weights: Vec::new(heap),
+            reasons: Vec::new(heap),
+            line: Vec::new(heap),
+            queue: Vec::new(heap),
+            work: Vec::new(heap),
+        }
     }
 
     // Lends the columns to a search.

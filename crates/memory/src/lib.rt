@@ -4,3 +4,5 @@
 pub mod columns;
 pub mod failure;
 pub mod input;
+#[cfg(test)]
+mod tests;

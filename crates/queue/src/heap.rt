@@ -1,5 +1,5 @@
 // Putting an element into a queue and taking a least one out.
-// The column is the caller's, with the number of elements beside it; `lent::Queue` holds the two together.
+// These are calls for a caller who keeps a lent column and the number of its elements; `lent::Queue` holds the two together.
 ghost use Rattle.queue.specs.Heap.{Put, Took};
 
 use crate::order::Order;

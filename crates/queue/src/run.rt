@@ -37,6 +37,7 @@ pub fn run_all<T: Order>(
         return Err(Short);
     }
     let mut held = Queue::new(queue);
+    // by index: after a loop over an adapter of `iter_mut` the check knows no element
     for (i, op) in ops.iter().enumerate() {
         replies[i] = answer(*op, &mut held);
     }

@@ -26,6 +26,7 @@ pub(crate) fn count_missing(sheet: &Passed, missing: &mut [u16])
     requires { length missing.old ≡ length sheet.now.slots.now }
     ensures { (k : ℕ) → k < length sheet.now.slots.now → slice_index missing.new k ≡ arity (rule_at sheet.now.slots.now k) }
 {
+    // by index: after a loop over an adapter of `iter_mut` the check knows no element
     for (i, slot) in sheet.slots().iter().enumerate() {
         missing[i] = arity_of(&rule_in(slot));
     }
@@ -72,7 +73,7 @@ impl<'s, 'a> Chains<'s, 'a> {
     {
         let (heads, next) = column.split_at_mut(sheet.facts() as usize);
         heads.fill(0);
-        // by number: rule_of says of a rule what its slot alone does not
+        // by number: of a rule by its slot the check knows that it is within the sheet only through its number
         for number in 0..sheet.slots().len() {
             chain_rule(sheet, number, heads, next);
         }

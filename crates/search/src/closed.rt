@@ -22,7 +22,7 @@ pub(crate) struct Closed<'a, W> {
     ghost few: { length weights.now ≤ 4096 },
 }
 
-// Every weight is heaviest.
+// Every weight is heaviest. Not fill, which asks that a clone of a weight equals it: no measure says that.
 fn clear<W: Measure>(weights: &mut [W])
     ensures { weights.new ≡ replicate (length weights.old) W.Measure.ops.heaviest }
 {

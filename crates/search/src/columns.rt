@@ -41,6 +41,7 @@ pub struct Counts {
 }
 
 // Whether columns of these lengths, which a search and a survey both write, are long enough for a sheet.
+// What the working column needs is written out: a function of two numbers would have to require that the sum fits.
 pub(crate) fn are_long(
     sheet: &Passed,
     weights: usize,

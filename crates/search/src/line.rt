@@ -29,6 +29,7 @@ fn unwind(sheet: &Passed, order: &[u16], target: u16, needed: &mut [u16], line: 
 {
     needed.fill(0);
     needed[target as usize] = 1;
+    // counted by hand: only some of the rules are written, and a lent column has no push
     let mut len = 0;
     for number in order.iter().rev() {
         let rule = rule_of(sheet, *number as usize);

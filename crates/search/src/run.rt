@@ -24,6 +24,8 @@ fn is_target(target: Option<u16>, fact: u16) -> bool
 }
 
 // Takes entries until the target is closed; out of reach where the queue runs empty first.
+// What is closed, the open places and the queue stand apart, here and in what it calls: the check covers no view of one field of a
+// struct while its other fields are written.
 pub(crate) fn run<W: Measure, G: Guide<W>>(
     chains: &Chains,
     target: Option<u16>,
@@ -42,6 +44,7 @@ pub(crate) fn run<W: Measure, G: Guide<W>>(
     ensures shows { ShowsEnd W.Measure.ops chains.now.sheet.slots.now (G.Guide.rest guide.now) target closed.new }
 {
     let mut taken: u16 = 0;
+    // the form of this loop is fixed: it takes the answer of the queue apart, and leaves with the refusal
     loop {
         let Some(entry) = queue.take() else {
             return Err(Refusal::OutOfReach(closed.count, taken));

@@ -47,7 +47,8 @@ fn finish<W: Measure>(
     }
 }
 
-// Searches columns of just the lengths asked for. They stand apart, since half of them are put together anew at once.
+// Searches columns of just the lengths asked for. They stand apart: a struct of them would be taken apart again here, to make
+// what is closed of three of them.
 pub(crate) fn solve<'a, W: Measure, G: Guide<W>>(
     sheet: &Passed,
     target: u16,

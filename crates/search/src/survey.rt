@@ -17,7 +17,7 @@ use queue::entry::Entry;
 use sheet::passed::Passed;
 use sheet::refusal::Refusal;
 
-// The counts that an end without a target tells: a search leaves by the refusal that has them.
+// The counts that an end without a target tells. The form of the main loop is fixed: it leaves with the refusal that has them.
 fn counts_of(refusal: Refusal) -> Counts
     ensures { (closed taken : ℕ) → refusal ≡ OutOfReach closed taken → result ≡ record { closed = closed; taken = taken } }
 {
@@ -30,7 +30,7 @@ fn counts_of(refusal: Refusal) -> Counts
     }
 }
 
-// Explores columns of just the lengths asked for, and answers the counts.
+// Explores columns of just the lengths asked for, and answers the counts. They stand apart as in solve, and are three of its five.
 fn survey_slots<'a, W: Measure>(
     sheet: &Passed,
     weights: &'a mut [W],

@@ -1,6 +1,7 @@
 // After a fact is closed: the rules whose body names it.
 ghost use Rattle.std.specs.Prelude.{◌≡◌, ℕ, ◌+◌, ◌-◌, ◌*◌, ◌<◌, ◌≤◌, false, List, length, slice_index, slice_set};
 ghost use Rattle.search.specs.Chains.{uses};
+ghost use Rattle.search.specs.Same.{SamePlaces};
 ghost use Rattle.search.specs.Waiting.{unready, Ready};
 ghost use Rattle.sheet.specs.Slots.{rule_at};
 
@@ -29,7 +30,7 @@ fn visit<W: Measure, G: Guide<W>>(
     requires stands { (rule_at sheet.now.slots.now number).struck ≡ false }
     requires some { 0 < slice_index missing.old number }
     requires room { queue.old.count + unready missing.old ≤ length queue.old.places.now }
-    ensures same { (queue.new.places.ghost_name ≡ queue.old.places.ghost_name) × (length queue.new.places.now ≡ length queue.old.places.now) }
+    ensures same { SamePlaces queue.old.places queue.new.places }
     ensures left { missing.new ≡ slice_set missing.old number (slice_index missing.old number - 1) }
     ensures total { queue.new.count + unready missing.new ≡ queue.old.count + unready missing.old }
     ensures ready { (taken : List ℕ) → Ready W.Measure.ops (G.Guide.rest guide.now) sheet.now.slots.now weights.now taken missing.old queue.old.places.now queue.old.count → Ready W.Measure.ops (G.Guide.rest guide.now) sheet.now.slots.now weights.now taken missing.new queue.new.places.now queue.new.count }
@@ -57,7 +58,7 @@ pub(crate) fn walk<W: Measure, G: Guide<W>>(
     requires long { (length missing.old ≡ length chains.now.sheet.slots.now) × (length closed.now.weights.now ≡ chains.now.sheet.facts) }
     requires some { (r : ℕ) → uses chains.now.sheet.slots.now fact r (4 * length chains.now.sheet.slots.now) ≤ slice_index missing.old r }
     requires room { queue.old.count + unready missing.old ≤ length queue.old.places.now }
-    ensures same { (queue.new.places.ghost_name ≡ queue.old.places.ghost_name) × (length queue.new.places.now ≡ length queue.old.places.now) }
+    ensures same { SamePlaces queue.old.places queue.new.places }
     ensures left { (r : ℕ) → slice_index missing.new r + uses chains.now.sheet.slots.now fact r (4 * length chains.now.sheet.slots.now) ≡ slice_index missing.old r }
     ensures total { queue.new.count + unready missing.new ≡ queue.old.count + unready missing.old }
     ensures ready { (taken : List ℕ) → Ready W.Measure.ops (G.Guide.rest guide.now) chains.now.sheet.slots.now closed.now.weights.now taken missing.old queue.old.places.now queue.old.count → Ready W.Measure.ops (G.Guide.rest guide.now) chains.now.sheet.slots.now closed.now.weights.now taken missing.new queue.new.places.now queue.new.count }

@@ -55,6 +55,7 @@ fn scan(slots: &[Slot], facts: u16) -> Result<usize, Refusal>
 }
 
 // Passes a sheet with a fact count into the view; a refusal leaves the view as it was.
+// The view is written and not answered: that form is fixed, and the check covers no Result that holds a view with an invariant.
 pub fn pass<'a>(slots: &'a [Slot], facts: u16, view: &mut Passed<'a>) -> Result<(), Refusal>
     ensures answered { answer result ≡ pass_answer slots.now facts }
     ensures left { seen view.new ≡ pass_view slots.now facts (seen view.old) }

@@ -16,7 +16,7 @@ loop-entry-init g c =
       columns = (ap length c.requires.cleared.0 ∙ length-replicate s.facts m.heaviest, marks);
       closing = closing_start g.met.W.Measure.lawful (held m c.args.links.now.floors.now) (weighted m s.slots.now) s.facts c.args.target _ _ _ _
           c.requires.cleared.0 c.requires.cleared.1 c.requires.target _ _ _ c.nothing.ensures (ap (λ k. take k new.places.now) c.new-queue.ensures.none) c.offer.ensures.offers;
-      room = omega (arith, c.offer.ensures.few, c.offer.ensures.long, c.new-queue.ensures.none, ap length c.new-queue.ensures.column, open_bound s.slots.now c.args.done.now (length s.slots.now), c.requires.room);
+      room = omega (arith, c.offer.ensures.few, c.offer.ensures.same.1, c.new-queue.ensures.none, ap length c.new-queue.ensures.column, open_bound s.slots.now c.args.done.now (length s.slots.now), c.requires.room);
     }
 
 pub bounds-done-group : goal.bounds-done-group
@@ -75,7 +75,7 @@ loop-entry-preserved g c =
       columns = (c.close.auto.rests ∙ inv.columns.0, c.close.auto.done ∙ inv.columns.1);
       closing = closed_by g.met.W.Measure.lawful (held m c.args.links.now.floors.now) (weighted m s.slots.now) s.facts c.args.target _ _ _ inv.closing _ x (taken_out out) (out.0.least c.loop-entry.queue.ordered)
           (omega (arith, u, inv.columns)) in_done c.if-done-group-eq1.false _ _ c.close.ensures.rests c.close.ensures.done _ _ (λ r i t h. standing_concludes m s.slots.now x.rule r t h) c.spread.ensures.follows;
-      room = omega (arith, c.spread.ensures.few, c.spread.ensures.long, fewer, inv.room, out.0.some, out.0.long, out.1);
+      room = omega (arith, c.spread.ensures.few, c.spread.ensures.same.1, fewer, inv.room, out.0.some, out.0.long, out.1);
     }
 
 pub returns : goal.returns

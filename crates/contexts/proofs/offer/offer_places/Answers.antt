@@ -33,8 +33,8 @@ loop-place-preserved g c =
     (c.body-group-items.ensures ∙ ap body_of is) c.loop-place-test.true weighs _ _ c.offer.ensures.offers in
     let inv = c.loop-place.invariant in
     record {
-      same = c.offer.ensures.same ∙ inv.same;
-      long = c.offer.ensures.long ∙ inv.long;
+      same = c.offer.ensures.same.0 ∙ inv.same;
+      long = c.offer.ensures.same.1 ∙ inv.long;
       few = omega (arith, c.offer.ensures.few, inv.few);
       follows = follows_then m _ _ _ _ _ _ _ _ _ _ _ _ inv.follows one
           (λ r k h. elim (cases_eq k i) [ inl e ↦ inr (h.0, e) | inr e ↦ inl (h.0, omega (arith, h.1, e)) ]);

@@ -65,8 +65,8 @@ loop-number-preserved g c =
     let v = c.offer_places.ensures in
     let one = subst (λ (z : ℕ). Follows m (held m c.args.links.now.floors.now) (weighted m xs) c.args.links.now.sheet.facts c.args.done.now z c.args.weight (λ r _. r ≡ n) (take c.loop-number.queue.count c.loop-number.queue.places.now) (take c.offer_places.new.queue.count c.offer_places.new.queue.places.now)) (concludes_parts xs f n h).1 v.follows in
     record {
-      same = v.same ∙ inv.same;
-      long = v.long ∙ inv.long;
+      same = v.same.0 ∙ inv.same;
+      long = v.same.1 ∙ inv.long;
       fixed = ap (last_rule xs f) e ∙ last_fixed xs f n ∙ sym e;
       under = omega (arith, e, last_bound xs f n, inv.under, is);
       few = omega (arith, v.few, k, inv.few, link_concluding xs f n link is inv.fixed);
