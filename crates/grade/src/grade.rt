@@ -12,11 +12,11 @@ use std::fmt;
 use text::named::Named;
 use text::solution::Solution;
 
-// What the search has found, and the columns that it has left.
+// What the search has found, and the rules of the line; the other columns are not held until the report is printed.
 #[derive(Drop)]
 pub struct Grade<W> {
     found: Found<W>,
-    columns: OwnedColumns<W>,
+    line: Vec<u16>,
 }
 
 // Searches the sheet for the target with the blank guide.
@@ -27,13 +27,14 @@ pub(crate) fn grade_sheet<W: Measure>(
 ) -> Result<Grade<W>, Failure<Refusal>> {
     let mut columns = OwnedColumns::new(heap)?;
     let found = search(sheet, target, &Blank, &mut columns.lend())?;
-    Ok(Grade { found, columns })
+    let line = columns.into_line(&found);
+    Ok(Grade { found, line })
 }
 
 impl<W: Named> fmt::Display for Grade<W> {
     fn fmt<F: fmt::Write>(&self, f: &mut fmt::Formatter<F>) -> fmt::Result {
         let found = self.found;
-        let line = self.columns.line_of(&found);
+        let line = self.line.as_slice();
         Solution { found, line }.fmt(f)
     }
 }

@@ -3,6 +3,7 @@
 
 mod grade;
 mod input;
+mod read;
 mod report;
 
 use input::INPUT_LIMIT;

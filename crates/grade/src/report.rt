@@ -1,6 +1,7 @@
 // The grades of a sheet file, one line a measure.
 use crate::grade::{Grade, grade_sheet};
 use crate::input::check_length;
+use crate::read::read_sheet;
 use measure::hardest::Hardest;
 use measure::total::Total;
 use measure::total_steps::TotalSteps;
@@ -23,7 +24,7 @@ pub struct Report {
 pub(crate) fn grade_file(heap: Global, bytes: &[u8]) -> Result<Report, Failure<Refusal>> {
     check_length(bytes.len())?;
     let mut slots = vec![in heap; None; RULES]?;
-    let header = file::read(bytes, &mut slots).map_err(|fault| fault.cause.refusal())?;
+    let header = read_sheet(bytes, &mut slots)?;
     let mut view = Passed::empty();
     pass(&slots, header.facts, &mut view)?;
     Ok(Report {

@@ -74,6 +74,16 @@ impl<W: Measure> OwnedColumns<W> {
         }
     }
 
+    // The rules of the line of a target that was found, in order; the memory of the other columns is given back.
+    pub fn into_line(self, found: &Found<W>) -> Vec<u16>
+        ensures { result.items ≡ take found.now.line self.line.items }
+    {
+        let n = self.line_of(found).len();
+        let mut line = self.line;
+        line.truncate(n);
+        line
+    }
+
     // The rules of the line of a target that was found, in order.
     pub fn line_of(&self, found: &Found<W>) -> &[u16]
         ensures { result.now ≡ take found.now.line self.now.line.items }
