@@ -67,7 +67,7 @@ pub(crate) struct Chains<'s, 'a> {
 
 impl<'s, 'a> Chains<'s, 'a> {
     // Chains the places of a sheet, in a column for the heads and the links of places.
-    pub fn new(sheet: &Passed<'s>, column: &'a mut [u16]) -> Chains<'s, 'a>
+    pub(crate) fn new(sheet: &Passed<'s>, column: &'a mut [u16]) -> Chains<'s, 'a>
         requires { sheet.now.facts + 4 * length sheet.now.slots.now ≤ length column.old }
         ensures { result.sheet ≡ sheet.now }
     {

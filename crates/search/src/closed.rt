@@ -35,7 +35,7 @@ impl<'a, W: Measure> Closed<'a, W> {
     ghost use Rattle.search.specs.ClosedFacts.{SameClosed, NoneClosed};
 
     // No fact is closed any more.
-    pub fn reopen(&mut self)
+    pub(crate) fn reopen(&mut self)
         ensures same { SameClosed self.old self.new }
         ensures none { NoneClosed W.Measure.ops self.new }
     {
@@ -45,7 +45,7 @@ impl<'a, W: Measure> Closed<'a, W> {
     }
 
     // Whether a fact is closed.
-    pub fn has(&self, fact: u16) -> bool
+    pub(crate) fn has(&self, fact: u16) -> bool
         requires { fact < length self.now.weights.now }
         ensures { result ≡ not (slice_index self.now.reasons.now fact == no_reason) }
     {
@@ -53,7 +53,7 @@ impl<'a, W: Measure> Closed<'a, W> {
     }
 
     // Closes a fact by the rule of an entry, at the entry's weight.
-    pub fn close(&mut self, fact: u16, entry: Entry<W>)
+    pub(crate) fn close(&mut self, fact: u16, entry: Entry<W>)
         requires room { (fact < length self.old.weights.now) × (self.old.count < length self.old.weights.now) }
         ensures same { SameClosed self.old self.new }
         ensures weights { self.new.weights.now ≡ slice_set self.old.weights.now fact entry.weight }
