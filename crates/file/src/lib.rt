@@ -9,6 +9,8 @@ mod judge;
 mod number;
 mod reader;
 mod rules;
+#[cfg(test)]
+mod tests;
 
 ghost use Rattle.std.specs.Prelude.{◌≡◌};
 ghost use Rattle.file.specs.Faults.{heard, report_of};
