@@ -6,3 +6,4 @@ mod Filled
 mod Entered
 mod Faithful
 mod Worked
+pub mod Fields

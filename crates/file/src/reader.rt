@@ -42,7 +42,7 @@ impl<'a> Reader<'a> {
     }
 
     // Takes a field; a fault tells where the field begins.
-    pub fn field<T, F: FnOnce(&mut Reader<'a>) -> Result<T, Cause>>(
+    pub(crate) fn field<T, F: FnOnce(&mut Reader<'a>) -> Result<T, Cause>>(
         &mut self,
         field: Field,
         take: F,
