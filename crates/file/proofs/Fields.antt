@@ -1,4 +1,4 @@
--- The contract of `Reader::field`, which no other crate can call or name, and that it is met.
+-- The contract of `Reader::field`, which no other crate can call or name, and that the method meets it.
 use Rattle.file.proofs.reader.Reader.field.Met.{met}
 use Rattle.file.proofs.reader.Reader.field.Statement.{statement}
 
